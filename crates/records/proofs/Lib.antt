@@ -1,0 +1,2 @@
+pub mod Gases
+pub mod Responses

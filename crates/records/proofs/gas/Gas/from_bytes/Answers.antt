@@ -1,0 +1,5 @@
+use Rattle.records.proofs.Gases.{reads-back, one-spelling, read-where-it-fits}
+use Rattle.records.proofs.gas.Gas.from_bytes.Needs as need
+
+pub returns : need.returns
+returns c = record { value = c .read .ensures; back = reads-back; only = one-spelling; fits = read-where-it-fits }

@@ -1,0 +1,3 @@
+pub mod Gases
+pub mod Responses
+pub mod Shapes

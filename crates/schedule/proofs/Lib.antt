@@ -1,0 +1,10 @@
+pub mod Frames
+pub mod Turns
+pub mod Readings
+pub mod Lists
+pub mod Puts
+pub mod Spelled
+pub mod Remaining
+pub mod Checks
+pub mod Decoding
+pub mod RoundTrips

@@ -1,0 +1,9 @@
+pub mod Faults
+pub mod Items
+pub mod Framing
+pub mod Kinds
+pub mod Rules
+pub mod Reading
+pub mod Readers
+pub mod Collecting
+pub mod Writing
