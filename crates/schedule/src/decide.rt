@@ -16,7 +16,7 @@ use settings::Choice;
 use settings::start_in_range;
 
 // The record by the number of its kind.
-pub fn decide<'a>(stage: Stage, kind: u16, body: &'a [u8]) -> Result<Record<'a>, Flaw>
+pub(crate) fn decide<'a>(stage: Stage, kind: u16, body: &'a [u8]) -> Result<Record<'a>, Flaw>
     ensures { λ r. ⌜ shown-of r ≡ decided stage kind (now (body .entry)) ⌝ }
 {
     match kind {

@@ -38,7 +38,7 @@ pub enum FileFault {
 }
 
 impl Flaw {
-    pub fn number(&self) -> u8
+    fn number(&self) -> u8
         ensures { λ r. ⌜ r ≡ number (now (self .entry)) ⌝ }
     {
         match self {

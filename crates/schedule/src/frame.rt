@@ -5,13 +5,13 @@ use crate::fault::Flaw;
 
 // The number of a kind, and the body as a part of the file.
 #[derive(Clone, Copy, Drop)]
-pub struct Frame<'a> {
+pub(crate) struct Frame<'a> {
     pub kind: u16,
     pub body: &'a [u8],
 }
 
 // The frame at the front of the bytes.
-pub fn read_frame<'a>(bytes: &'a [u8]) -> Result<Frame<'a>, Flaw>
+pub(crate) fn read_frame<'a>(bytes: &'a [u8]) -> Result<Frame<'a>, Flaw>
     ensures { λ r. ⌜ parts-of r ≡ frame-of (now (bytes .entry)) ⌝ }
 {
     match bytes {

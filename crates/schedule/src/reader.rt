@@ -28,13 +28,13 @@ pub struct Reader<'a> {
 
 // A schedule record, and how many bytes it takes.
 #[derive(Clone, Copy, Drop)]
-pub struct Sized<'a> {
+struct Sized<'a> {
     pub item: Record<'a>,
     pub size: usize,
 }
 
 // The schedule record at the front of the bytes.
-pub fn read_record<'a>(bytes: &'a [u8], stage: Stage) -> Result<Sized<'a>, Flaw>
+fn read_record<'a>(bytes: &'a [u8], stage: Stage) -> Result<Sized<'a>, Flaw>
     ensures { λ r. ⌜ measured-of r ≡ record-of stage (now (bytes .entry)) ⌝ }
 {
     let frame = read_frame(bytes)?;

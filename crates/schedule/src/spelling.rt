@@ -14,7 +14,7 @@ use records::Class;
 use settings::Choice;
 
 // How many bytes the record takes; wide enough for any length of its record bytes.
-pub fn spelled_len(item: &Record<'_>) -> u128
+pub(crate) fn spelled_len(item: &Record<'_>) -> u128
     ensures value { λ r. ⌜ r ≡ length (spell (shown (now (item .entry)))) ⌝ }
     ensures bound { λ r. ⌜ r < 2 ^ 65 ⌝ }
 {
@@ -132,7 +132,7 @@ fn put_write(buffer: &mut [u8], at: usize, station: u16, value: &[u8]) -> usize
 }
 
 // Puts a record that fits into the buffer from an offset on, and answers the offset after it.
-pub fn put_record(buffer: &mut [u8], at: usize, item: &Record<'_>) -> usize
+pub(crate) fn put_record(buffer: &mut [u8], at: usize, item: &Record<'_>) -> usize
     requires fits { ⌜ at + length (spell (shown (now item))) ≤ length (now buffer) ⌝ }
     requires short { ⌜ length (spell (shown (now item))) ≤ 65536 ⌝ }
     ensures value { λ r. ⌜ r ≡ at + length (spell (shown (now (item .entry)))) ⌝ }

@@ -16,7 +16,7 @@ pub enum Stage {
 
 impl Stage {
     // The stage after a record that stands where it may.
-    pub fn after(self, r: &Record<'_>) -> Stage
+    pub(crate) fn after(self, r: &Record<'_>) -> Stage
         ensures { λ s. ⌜ s ≡ stage-after self (shown (now (r .entry))) ⌝ }
     {
         match r {

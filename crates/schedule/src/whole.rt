@@ -1,5 +1,6 @@
 // Whole schedule files: checked with no memory, or read into a list of records.
 ghost use mathlib.Core.Path.{_≡_};
+ghost use Rattle.std.specs.declared.result.Result.the-variants.{Ok};
 ghost use Rattle.schedule.specs.Reading.{read-of};
 ghost use Rattle.schedule.specs.Readers.{verdict, checked};
 ghost use Rattle.schedule.specs.Collecting.{Collected};
@@ -29,7 +30,17 @@ pub fn check(file: &[u8]) -> Result<(), FileFault>
 pub fn read<'a>(heap: Global, file: &'a [u8]) -> Result<Vec<Placed<'a>>, ReadFault>
     ensures { λ r. ⌜ Collected (read-of (now (file .entry))) r ⌝ }
 {
-    check(file)?;
+    match check(file) {
+        Ok(()) => collect(heap, file),
+        Err(fault) => Err(ReadFault::File(fault)),
+    }
+}
+
+// The records of a file that is right.
+fn collect<'a>(heap: Global, file: &'a [u8]) -> Result<Vec<Placed<'a>>, ReadFault>
+    requires { ⌜ Ok tt ≡ verdict (read-of (now file)) ⌝ }
+    ensures { λ r. ⌜ Collected (read-of (now (file .entry))) r ⌝ }
+{
     let mut records = Vec::new(heap);
     let mut reader = Reader::new(file);
     while let Some(placed) = reader.next()? {

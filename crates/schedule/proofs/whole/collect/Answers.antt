@@ -14,8 +14,8 @@ use Rattle.schedule.specs.Reading.{ahead, reading}
 use Rattle.schedule.specs.Readers.{answered, verdict, to-come}
 use Rattle.schedule.proofs.Lists.{prefixed, prefixed-more, prefixed-all, verdict-prefixed, verdict-ok}
 use Rattle.schedule.proofs.Readings.{Moved, next-item, next-end, next-fault}
-use Rattle.schedule.proofs.whole.read.Needs as need
-use Rattle.schedule.proofs.whole.read.Needs.{In-Some}
+use Rattle.schedule.proofs.whole.collect.Needs as need
+use Rattle.schedule.proofs.whole.collect.Needs.{In-Some}
 
 moved : (c : In-Some) → Moved (c .loop-records .reader .stage) (c .loop-records .reader .at) (c .loop-records .reader .file .now) (shown-placed (c .in-Some .placed)) (c .next .last .self .stage) (c .next .last .self .at)
 moved c =
@@ -25,7 +25,7 @@ moved c =
 
 pub returns-in-Break-placed : need.returns-in-Break-placed
 returns-in-Break-placed c =
-    let p = err-from-errBy (c .from-residual-in-Break-placed .result) (c .from-residual-in-Break-placed .ensures .1) in
+    let p = err-from-errBy (c .from-residual .result) (c .from-residual .ensures .1) in
     rw (p .1, p .2)
     (ap verdict (c .loop-records .inv .0) ∙ verdict-prefixed (map shown-placed (vec-items (c .loop-records .records))) (to-come (c .loop-records .reader))
     ∙ next-fault (c .loop-records .reader .stage) (c .loop-records .reader .at) (c .loop-records .reader .file .now) (c .in-Break-placed .field-0 .0) (c .in-Break-placed .ensures tt .answer))
@@ -52,7 +52,7 @@ loop-records-again c =
 pub returns-in-Break-push : need.returns-in-Break-push
 returns-in-Break-push c =
     let p = err-from-errBy (c .from-residual-in-Break-push .result) (c .from-residual-in-Break-push .ensures .1) in
-    rw (p .1, p .2) (verdict-ok _ (c .in-Continue-check .ensures tt))
+    rw (p .1, p .2) (verdict-ok _ (c .pre))
 
 pub returns : need.returns
 returns c =

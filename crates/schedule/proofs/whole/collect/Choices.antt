@@ -8,7 +8,7 @@ use Rattle.schedule.specs.Items.{shown-placed}
 use Rattle.schedule.specs.Reading.{read-of}
 use Rattle.schedule.specs.Readers.{to-come}
 use Rattle.schedule.proofs.Lists.{prefixed}
-use Rattle.schedule.proofs.whole.read.Given as given
+use Rattle.schedule.proofs.whole.collect.Given as given
 
 abbrev pub Inv-loop-records : given.InvT-loop-records
 Inv-loop-records l =
