@@ -1,11 +1,11 @@
-# Writes crates/trials/data/cases.txt, the cases, and crates/trials/stdout, what oracle.py says of them; run it from the repository's root.
+# Writes the cases of crates/trials and the files of examples/, and beside them what oracle.py says; run it from the repository's root.
 # With a number it writes no file: it judges so many spoiled files with target/bin/ccreg, and counts where program and oracle agree.
 import random
 import struct
 import subprocess
 import sys
 
-from oracle import report
+from oracle import Refused, report, schedule_records
 
 
 def halves(*numbers):
@@ -151,7 +151,6 @@ def admission():
 
 def steps():
     """Accepted files, one for each sort of step."""
-    yield "worked-example", EXAMPLE
     yield "no-steps", SET + GO
     yield "no-steps-gas", SET + GO_GAS
     for kind in (4, 5, 6, 7):
@@ -160,6 +159,16 @@ def steps():
     yield "far-message", SET + GO + deliver(2**32 - 1, 65535)
     yield "one-of-each", SET + GO + TICK + b"".join(rec(k, halves(0)) for k in (4, 5, 6, 7)) + write(1, RESPONSE) + deliver(0, 0)
 
+
+EXAMPLES = {
+    "worked": EXAMPLE,
+    "gas": settings(4, 3, 76, 75, 25, 4) + start(2, 40, 25, GAS[1]) + write(3, GAS[2]) + TICK + rec(4, halves(25)) + rec(7, halves(0))
+    + TICK + rec(5, halves(7)) + rec(6, halves(9)) + deliver(0, 3) + write(4, GAS[0]) + TICK,
+    "wrong-length": SET + rec(2, halves(1, 2, 2) + bytes(6)) + TICK,
+    "unknown-kind-last": settings(99, 0, 0, 0, 0, 0) + GO + TICK + rec(10),
+    "quorums-apart": settings(4, 3, 74, 75, 25, 4) + start(1, 40, 25, RESPONSE) + TICK,
+    "too-few-stations": SET + start(1, 2, 1, RESPONSE),
+}
 
 VALID = [EXAMPLE] + [file for _, file in steps()] + [
     settings(*row, 2) + start(2, 256, row[4], GAS[1]) + write(0, GAS[0]) + TICK + rec(7, halves(1)) + write(1, GAS[2]) for row in ROWS]
@@ -202,6 +211,8 @@ def spoiled(rng):
 
 def cases():
     """The cases by name, each with its file as it is written in the list."""
+    for name, file in EXAMPLES.items():
+        yield "example-" + name, file.hex()
     for group in (steps, framing, order, values, admission):
         for name, file in group():
             yield name, file.hex() or "00*0"
@@ -221,6 +232,14 @@ def file_of(parts):
     """The bytes of a case, as the program reads its list."""
     pairs = [part.partition("*") for part in parts.split("+")]
     return b"".join(bytes.fromhex(digits) * int(times or 1) for digits, _, times in pairs)
+
+
+def readable(file):
+    """Whether a file is right by itself, whatever its settings."""
+    try:
+        return bool(schedule_records(file))
+    except Refused:
+        return False
 
 
 def compare(count):
@@ -244,4 +263,10 @@ else:
         out.writelines("%s %s\n" % case for case in listed)
     with open("crates/trials/stdout", "w") as out:
         out.writelines("%s\n%s" % (name, report(file_of(parts))) for name, parts in listed)
+        out.write("%d files read and written again as they were\n" % sum(readable(file_of(parts)) for _, parts in listed))
+    for name, file in EXAMPLES.items():
+        with open("examples/%s.sched" % name, "wb") as out:
+            out.write(file)
+        with open("examples/%s.out" % name, "w") as out:
+            out.write(report(file))
     print("%d cases" % len(listed))

@@ -1,6 +1,7 @@
 // Prints the report of every file in a list of cases. A case is a line with a name and a file: parts that
 // are joined by `+`, each of them bytes in hexadecimal, with `*` and a number where they come more than once.
 ghost use Prim.Native.Nat.{_<_};
+use judge::MOST_BYTES;
 use judge::report;
 use std::alloc::AllocError;
 use std::alloc::Global;
@@ -49,8 +50,25 @@ fn file_of(heap: Global, parts: &str) -> Result<Vec<u8>, AnyError> {
     Ok(file)
 }
 
+// Whether a file that is right comes out the same when its records are written; none where it is not right.
+fn comes_again(heap: Global, file: &[u8]) -> Result<Option<bool>, AnyError> {
+    let Ok(placed) = schedule::read(heap, file) else {
+        return Ok(None);
+    };
+    let mut records = Vec::new(heap);
+    for p in placed.iter() {
+        records.push(p.item)?;
+    }
+    let mut buffer = vec![in heap; 0u8; MOST_BYTES]?;
+    match schedule::write(records.as_slice(), buffer.as_mut_slice()) {
+        Ok(len) => Ok(Some(buffer.as_slice().get(0..len) == Some(file))),
+        Err(_) => Ok(Some(false)),
+    }
+}
+
 fn run(rt: &LibcRuntime) -> Result<(), AnyError> {
     let cases = fs::read_to_string(rt, "cases.txt")?;
+    let mut same = 0u32;
     for line in cases.lines() {
         let Some((name, parts)) = line.split_once(' ') else {
             return Err("a case has no file".into());
@@ -58,7 +76,11 @@ fn run(rt: &LibcRuntime) -> Result<(), AnyError> {
         let file = file_of(rt.alloc(), parts)?;
         rt.println(name)?;
         rt.print(report(rt.alloc(), file.as_slice())?)?;
+        if comes_again(rt.alloc(), file.as_slice())? == Some(true) {
+            same = same.saturating_add(1);
+        }
     }
+    println!(rt, "{same} files read and written again as they were")?;
     Ok(())
 }
 
