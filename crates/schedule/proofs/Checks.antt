@@ -7,7 +7,6 @@ use native.Mathlib.Omega.{arith}
 use borrow.Author.Tests.{false-ltb}
 use lib.Dec.{ltb}
 use lib.ListN.{length}
-use Rattle.std.specs.declared.result.Result.{Result}
 use Rattle.std.specs.declared.result.Result.the-variants.{Ok, Err}
 use Rattle.refusals.specs.declared.Refusal.{Refusal}
 use Rattle.settings.specs.declared.fault.SettingsFault.the-variants.{MemorySize}
@@ -18,7 +17,7 @@ use Rattle.schedule.specs.declared.fault.FileFault.the-variants.{Oversize, At}
 use Rattle.schedule.specs.declared.stage.Stage.{Stage}
 use Rattle.schedule.specs.declared.stage.Stage.the-variants as stage
 use Rattle.schedule.specs.Faults.{told}
-use Rattle.schedule.specs.Items.{Item, shown}
+use Rattle.schedule.specs.Items.{shown}
 use Rattle.schedule.specs.Kinds.{spell}
 use Rattle.schedule.specs.Reading.{Reading, most-bytes, reading}
 use Rattle.schedule.specs.Readers.{checked-length, length-if}

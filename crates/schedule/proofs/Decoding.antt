@@ -1,11 +1,11 @@
 -- Items and bodies: what a body says is spelled by that body alone.
-use mathlib.Core.Path.{_≡_, refl, sym, ap, ap₂, subst, _∙_}
-use mathlib.Core.Bool.{Bool, true, false, cond, not}
-use mathlib.Core.List.{List, [], _∷_, _++_}
-use Prim.Native.Nat.{ℕ, _+_, _-_, _*_, _%_, _/_, _≤_, _<_}
+use mathlib.Core.Path.{_≡_, refl, sym, ap, ap₂, _∙_}
+use mathlib.Core.Bool.{Bool, true, false, cond}
+use mathlib.Core.List.{List, [], _++_}
+use Prim.Native.Nat.{ℕ, _+_, _-_, _≤_, _<_}
 use native.Mathlib.Omega.{arith}
-use lib.Dec.{eqb, ltb}
-use lib.ListN.{length, take, drop, length-drop}
+use lib.Dec.{ltb}
+use lib.ListN.{length, drop, length-drop}
 use Rattle.std.proofs.shelf.Elements.{all-drop}
 use Rattle.std.proofs.shelf.Lists.{drop-all, drop-drop}
 use Rattle.std.specs.declared.option.Option.{Option}
@@ -14,7 +14,7 @@ use Rattle.std.specs.declared.result.Result.{Result}
 use Rattle.std.specs.declared.result.Result.the-variants.{Ok, Err}
 use Rattle.std.specs.shelf.Lists.{All}
 use Rattle.fields.specs.Numbers.{two, four, le2, le4}
-use Rattle.fields.proofs.Spelling.{two-le2-more, four-le4-more, two-front, four-front, two-only, two-drop, four-drop}
+use Rattle.fields.proofs.Spelling.{two-le2-more, four-le4-more, two-front, four-front, two-only, two-drop}
 use Rattle.records.specs.declared.class.Class.{Class}
 use Rattle.records.specs.declared.class.Class.the-variants.{Response, Gas}
 use Rattle.schedule.specs.declared.fault.Flaw.{Flaw}
@@ -22,7 +22,7 @@ use Rattle.schedule.specs.declared.fault.Flaw.the-variants as flaw
 use Rattle.schedule.specs.declared.stage.Stage.{Stage}
 use Rattle.schedule.specs.declared.stage.Stage.the-variants as stage
 use Rattle.schedule.specs.Items.{Item, settings, start, tick, enter, leave, crash, read, write, deliver}
-use Rattle.schedule.specs.Kinds.{Kind, Settings, Start, Tick, Enter, Leave, Crash, Read, Write, Deliver, number, kind-of, class-of, class-number, class-or, choice-of, choice-bytes, item-of, kind-in, body-of}
+use Rattle.schedule.specs.Kinds.{Kind, Settings, Start, Tick, Enter, Leave, Crash, Read, Write, Deliver, class-of, class-number, class-or, choice-of, choice-bytes, item-of, kind-in, body-of}
 use Rattle.schedule.specs.Rules.{wrong-length, misplaced, out-of-range, judged, start-wrong, start-out, write-wrong, unless-length}
 use Rattle.schedule.specs.Writing.{Fitting}
 use Rattle.schedule.proofs.Readings.{never}

@@ -1,14 +1,11 @@
 -- Items that were read, ahead of what is still to be read.
-use mathlib.Core.Path.{_≡_, refl, sym, ap, _∙_}
-use mathlib.Core.List.{List, [], _∷_, _++_, append-nil}
+use mathlib.Core.Path.{_≡_, refl, ap, _∙_}
+use mathlib.Core.List.{List, [], _∷_, _++_}
 use mathlib.Core.Bool.{true}
 use Prim.Native.Nat.{ℕ}
 use native.Mathlib.Omega.{arith}
 use Rattle.std.specs.Results.{isOk}
-use Rattle.std.specs.declared.result.Result.{Result}
 use Rattle.std.specs.declared.result.Result.the-variants.{Ok, Err}
-use Rattle.schedule.specs.declared.fault.FileFault.{FileFault}
-use Rattle.schedule.specs.Faults.{told}
 use Rattle.schedule.specs.Items.{PlacedItem}
 use Rattle.schedule.specs.Reading.{Reading, ahead}
 use Rattle.schedule.specs.Readers.{verdict}

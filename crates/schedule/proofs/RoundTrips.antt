@@ -1,12 +1,12 @@
 -- Writer and reader are inverses: what is written is read again, and what is read has one spelling.
 use mathlib.Core.Path.{_≡_, refl, sym, ap, ap₂, subst, _∙_}
 use mathlib.Core.Bool.{Bool, true, false, cond}
-use mathlib.Core.List.{List, [], _∷_, _++_, append-assoc, map}
-use Prim.Native.Nat.{ℕ, zero, suc, _+_, _-_, _*_, _≤_, _<_}
+use mathlib.Core.List.{List, [], _∷_, _++_}
+use Prim.Native.Nat.{ℕ, zero, suc, _+_, _-_, _≤_, _<_}
 use native.Mathlib.Omega.{arith}
 use borrow.Author.Tests.{false-ltb, true-eqb}
 use lib.Dec.{eqb, ltb}
-use lib.ListN.{length, take, drop, length-append, length-drop, length-take}
+use lib.ListN.{length, drop, length-append, length-drop}
 use Rattle.std.proofs.shelf.Elements.{all-take, all-drop}
 use Rattle.std.proofs.shelf.Lists.{drop-all, drop-drop, take-append-drop}
 use Rattle.std.specs.declared.option.Option.{Option}
@@ -18,16 +18,15 @@ use Rattle.refusals.specs.declared.Refusal.{Refusal}
 use Rattle.fields.specs.Numbers.{two, le2}
 use Rattle.fields.proofs.Spelling.{two-front, two-drop}
 use Rattle.schedule.specs.declared.fault.Flaw.{Flaw}
-use Rattle.schedule.specs.declared.fault.FileFault.{FileFault}
-use Rattle.schedule.specs.declared.fault.FileFault.the-variants.{Oversize, At}
+use Rattle.schedule.specs.declared.fault.FileFault.the-variants.{Oversize}
 use Rattle.schedule.specs.declared.stage.Stage.{Stage}
 use Rattle.schedule.specs.declared.stage.Stage.the-variants as stage
 use Rattle.schedule.specs.Items.{Item, PlacedItem}
 use Rattle.schedule.specs.Framing.{Parts, frame-of, framed, frame-size}
-use Rattle.schedule.specs.Kinds.{Kind, Settings, Start, Tick, Enter, Leave, Crash, Read, Write, Deliver, number, kind-of, kind-in, body-of, item-of, spell}
+use Rattle.schedule.specs.Kinds.{Kind, Settings, Start, Tick, Enter, Leave, Crash, Read, Write, Deliver, number, kind-of, kind-in, body-of, spell}
 use Rattle.schedule.specs.Rules.{judged, of-kind, decided, stage-after}
 use Rattle.schedule.specs.Reading.{Measured, measured, in-frame, record-of, Turn, ends, fails, gives, turn-end, turn-record, turn, Reading, ahead, follow, scan, reading, most-bytes, read-of}
-use Rattle.schedule.specs.Writing.{spelled, into-room, as-read, written, placed-from, Fitting, items-of, onward, Written-is-read, Read-is-written}
+use Rattle.schedule.specs.Writing.{spelled, as-read, placed-from, Fitting, items-of, onward, Written-is-read, Read-is-written}
 use Rattle.schedule.proofs.Decoding.{Bytes, item-back, passed, body-spelled}
 use Rattle.schedule.proofs.Readings.{never, end-gives-none, turn-size}
 use Rattle.schedule.proofs.Spelled.{reading-flaw, reading-past}

@@ -1,27 +1,23 @@
 -- What a reader meets in the bytes of items.
 use mathlib.Core.Path.{_≡_, refl, sym, ap, ap₂, _∙_}
-use mathlib.Core.Bool.{Bool, true, false, cond}
-use mathlib.Core.List.{List, [], _∷_, _++_}
-use Prim.Native.Nat.{ℕ, suc, _+_, _-_, _%_, _/_, _*_, _≤_, _<_}
+use mathlib.Core.List.{List, [], _++_}
+use Prim.Native.Nat.{ℕ, _+_, _-_, _≤_, _<_}
 use native.Mathlib.Omega.{arith}
-use lib.Dec.{eqb}
-use lib.ListN.{length, take, drop, length-append}
+use lib.ListN.{length, take, length-append}
 use Rattle.std.proofs.shelf.Lists.{take-at, drop-at}
 use Rattle.std.specs.declared.option.Option.{Option}
-use Rattle.std.specs.declared.option.Option.the-variants.{Some, None}
+use Rattle.std.specs.declared.option.Option.the-variants.{Some}
 use Rattle.std.specs.declared.result.Result.{Result}
 use Rattle.std.specs.declared.result.Result.the-variants.{Ok, Err}
-use Rattle.refusals.specs.declared.Refusal.{Refusal}
-use Rattle.fields.specs.Numbers.{two, le2}
 use Rattle.fields.proofs.Spelling.{two-le2-more}
 use Rattle.schedule.specs.declared.fault.Flaw.{Flaw}
 use Rattle.schedule.specs.declared.fault.FileFault.the-variants.{At}
 use Rattle.schedule.specs.declared.stage.Stage.{Stage}
 use Rattle.schedule.specs.Items.{Item, PlacedItem}
-use Rattle.schedule.specs.Framing.{Parts, frame-of, framed, frame-size}
+use Rattle.schedule.specs.Framing.{frame-of, framed, frame-size}
 use Rattle.schedule.specs.Kinds.{Kind, Settings, Start, Tick, Enter, Leave, Crash, Read, Write, Deliver, number, kind-of, kind-in, body-of, spell}
-use Rattle.schedule.specs.Rules.{judged, of-kind, decided, stage-after}
-use Rattle.schedule.specs.Reading.{Measured, measured, in-frame, record-of, Turn, fails, gives, turn-end, turn-record, turn, Reading, ahead, reading}
+use Rattle.schedule.specs.Rules.{judged, of-kind, stage-after}
+use Rattle.schedule.specs.Reading.{measured, in-frame, turn-record, turn, Reading, ahead, reading}
 use Rattle.schedule.specs.Readers.{length-if}
 use Rattle.schedule.specs.Writing.{onward, stage-past-item}
 use Rattle.schedule.proofs.Frames.{frame-ok}

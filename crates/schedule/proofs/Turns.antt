@@ -1,7 +1,7 @@
 -- What a reader meets at a place of a file.
-use mathlib.Core.Path.{_≡_, refl, sym, ap, _∙_}
+use mathlib.Core.Path.{_≡_, refl, ap, _∙_}
 use mathlib.Core.Bool.{true, false, cond}
-use mathlib.Core.List.{List, []}
+use mathlib.Core.List.{List}
 use Prim.Native.Nat.{ℕ, _+_, _-_, _≤_, _<_}
 use native.Mathlib.Omega.{arith}
 use lib.Dec.{eqb}
@@ -14,7 +14,7 @@ use Rattle.schedule.specs.declared.stage.Stage.{Stage}
 use Rattle.schedule.specs.Items.{Item}
 use Rattle.schedule.specs.Framing.{Parts, frame-of, frame-size}
 use Rattle.schedule.specs.Rules.{decided}
-use Rattle.schedule.specs.Reading.{Measured, measured, in-frame, record-of, Turn, turn-end, turn-record, turn}
+use Rattle.schedule.specs.Reading.{Measured, measured, in-frame, record-of, turn-end, turn-record, turn}
 
 pub turn-none : (s : Stage) (at : ℕ) (bs : List ℕ) → length bs ≡ 0 → turn s at bs ≡ turn-end s at
 turn-none s at bs h = let e : eqb (length bs) 0 ≡ true = grind arith in ap (λ b. cond b (turn-end s at) (turn-record s at (record-of s bs))) e

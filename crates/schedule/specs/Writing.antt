@@ -9,7 +9,6 @@ use Rattle.std.specs.declared.result.Result.{Result}
 use Rattle.std.specs.declared.result.Result.the-variants.{Ok, Err}
 use Rattle.std.specs.shelf.Lists.{All}
 use Rattle.refusals.specs.declared.Refusal.{Refusal}
-use Rattle.settings.specs.declared.choice.Choice.{Choice}
 use Rattle.settings.specs.declared.fault.SettingsFault.the-variants.{MemorySize}
 use Rattle.settings.specs.Faults as settings-faults
 use Rattle.schedule.specs.declared.fault.WriteFault.{WriteFault}

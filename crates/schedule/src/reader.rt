@@ -1,12 +1,9 @@
 // Reads a schedule file record by record, in one pass and with no memory of its own.
 ghost use mathlib.Core.Path.{_≡_};
-ghost use mathlib.Core.Bool.{cond};
-ghost use lib.Dec.{ltb};
-ghost use lib.ListN.{length};
 ghost use Rattle.std.specs.declared.result.Result.the-variants.{Ok, Err};
 ghost use Rattle.schedule.specs.declared.stage.Stage.the-variants.{Settings};
-ghost use Rattle.schedule.specs.Reading.{record-of, read-of};
-ghost use Rattle.schedule.specs.Readers.{measured-of, to-come, turn-at, answer, answered, stage-past, place-past, verdict, checked};
+ghost use Rattle.schedule.specs.Reading.{record-of};
+ghost use Rattle.schedule.specs.Readers.{measured-of, turn-at, answer, answered, stage-past, place-past};
 use crate::Placed;
 use crate::Record;
 use crate::decide::decide;

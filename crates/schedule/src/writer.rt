@@ -6,7 +6,7 @@ ghost use lib.Dec.{leb};
 ghost use lib.ListN.{length, drop};
 ghost use Rattle.schedule.specs.declared.stage.Stage.the-variants.{Steps};
 ghost use Rattle.schedule.specs.Items.{start, write, shown};
-ghost use Rattle.schedule.specs.Reading.{most-bytes, read-of};
+ghost use Rattle.schedule.specs.Reading.{most-bytes};
 ghost use Rattle.schedule.specs.Readers.{lengthwise, checked-length};
 ghost use Rattle.schedule.specs.Writing.{spelled, written, buffer-after, how-long, wrote, stage-past-item, Written-is-read, Read-is-written};
 use crate::Record;

@@ -1,6 +1,6 @@
 -- The range of each of the six numbers.
 use mathlib.Core.Bool.{Bool, _&&_}
-use Prim.Native.Nat.{ℕ, _≤_}
+use Prim.Native.Nat.{_≤_}
 use lib.Dec.{leb}
 use Rattle.settings.specs.declared.choice.Choice.{Choice}
 

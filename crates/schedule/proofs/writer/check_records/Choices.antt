@@ -1,4 +1,3 @@
-use Prim.Native.Nat.{_≤_}
 use Rattle.schedule.proofs.Checks.{Come-to}
 use Rattle.schedule.proofs.writer.check_records.Given as given
 
