@@ -1,0 +1,5 @@
+pub mod Census
+pub mod Marks
+pub mod Windows
+pub mod Conditions
+pub mod Limits

@@ -1,0 +1,5 @@
+use Rattle.network.proofs.Opening.{none-latest}
+use Rattle.network.proofs.log.nobodys.Needs as need
+
+pub returns : need.returns
+returns c = none-latest 256
