@@ -15,10 +15,9 @@ use Rattle.std.specs.declared.option.Option.the-variants.{Some, None}
 use Rattle.stations.specs.Members.{put}
 use Rattle.network.specs.declared.entry.Entry.{Entry}
 use Rattle.network.specs.declared.log.OperationLog.{OperationLog}
-use Rattle.network.specs.Entries.{log-of, places, can-open, can-count, counts-may-rise, latest-entry, Same-memory}
+use Rattle.network.specs.Entries.{latest-of, log-of, places, can-open, can-count, counts-may-rise, latest-entry, Same-memory}
 use Rattle.network.specs.Logs.{Log, at-latest, changed-at}
-use Rattle.network.proofs.Opening.{room, put-latest}
-use Rattle.network.proofs.Places.{element-in, front-short, changed-none, changed-some, take-set, drop-set}
+use Rattle.network.proofs.Places.{element-in, front-short, changed-none, changed-some, take-set, drop-set, room, put-latest}
 
 module _ {R : Type 0} (l : OperationLog R) where
   -- the lent entries
@@ -27,11 +26,11 @@ module _ {R : Type 0} (l : OperationLog R) where
 
   -- a log with the same latest entries
   abbrev with-entries : List (Entry R) → Log R
-  with-entries es = record { entries = es; latest = λ q. getD (l .latest) q 0 }
+  with-entries es = record { entries = es; latest = latest-of (l .latest) }
 
   -- what a log of these parts shows
   abbrev view : ℕ → List (Entry R) → List ℕ → Log R
-  view k es places = record { entries = take k es; latest = λ q. getD places q 0 }
+  view k es places = record { entries = take k es; latest = latest-of places }
 
   pub same-memory : Same-memory l l
   same-memory = record { rest = refl; size = refl; named = refl }
@@ -92,12 +91,12 @@ module _ {R : Type 0} (l : OperationLog R) where
     whole-now : now (n .entries) ≡ set lent (l .len) e
     whole-now = written ∙ ap (set lent (l .len)) made
 
-    pub open-after : log-of n ≡ cond (can-open (places l) (log-of l)) (record { entries = take (l .len) lent ++ (e ∷ []); latest = put (λ q. getD (l .latest) q 0) p (length (take (l .len) lent)) }) (log-of l)
+    pub open-after : log-of n ≡ cond (can-open (places l) (log-of l)) (record { entries = take (l .len) lent ++ (e ∷ []); latest = put (latest-of (l .latest)) p (length (take (l .len) lent)) }) (log-of l)
     open-after =
         ap (λ (k : ℕ). view k (now (n .entries)) (n .latest)) len ∙ ap (λ es. view (l .len + 1) es (n .latest)) whole-now
         ∙ ap (view (l .len + 1) (set lent (l .len) e)) latest
-        ∙ ap (λ es. record { entries = es; latest = λ q. getD (set (l .latest) p (l .len)) q 0 }) (take-more-set lent (l .len) e (next-lent has-room))
-        ∙ ap (λ (w : ℕ → ℕ). record { entries = take (l .len) lent ++ (e ∷ []); latest = w }) (put-latest (l .latest) p (l .len) stations ∙ ap (put (λ q. getD (l .latest) q 0) p) number)
+        ∙ ap (λ es. record { entries = es; latest = latest-of (set (l .latest) p (l .len)) }) (take-more-set lent (l .len) e (next-lent has-room))
+        ∙ ap (λ (w : ℕ → ℕ). record { entries = take (l .len) lent ++ (e ∷ []); latest = w }) (put-latest (l .latest) p (l .len) stations ∙ ap (put (latest-of (l .latest)) p) number)
         ∙ sym (cond-true _ _ _ (sym has-room))
 
     pub open-memory : Same-memory l n

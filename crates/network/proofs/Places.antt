@@ -1,11 +1,16 @@
--- The element at a place of a list, read or changed, in the whole list and in its front.
-use mathlib.Core.Path.{_≡_, refl, sym, ap, _∙_}
+-- Lists and functions at one place: what stands there, read or changed, in a whole list and in its front.
+use mathlib.Core.Path.{_≡_, refl, sym, ap, _∙_, fun-ext}
+use mathlib.Core.Bool.{Bool, true, false, cond}
 use mathlib.Core.List.{List, [], _∷_}
-use Prim.Native.Nat.{ℕ, zero, suc, _<_, _≤_}
+use Prim.Native.Nat.{ℕ, zero, suc, _+_, _<_, _≤_}
 use native.Mathlib.Omega.{arith}
-use lib.ListN.{length, getD, set, take, drop, length-take}
+use lib.Dec.{eqb, ltb}
+use lib.ListN.{length, getD, set, take, drop, replicate, length-take}
+use Rattle.std.proofs.shelf.Ways.{tells}
 use Rattle.std.specs.declared.option.Option.{Option}
 use Rattle.std.specs.declared.option.Option.the-variants.{Some, None}
+use Rattle.stations.specs.Members.{put}
+use Rattle.network.specs.Entries.{latest-of}
 use Rattle.network.specs.Logs.{changed-at}
 use Rattle.network.specs.Steps.{element}
 
@@ -65,3 +70,37 @@ module _ {A : Type 0} where
 
   pub front-short : (n : ℕ) (es : List A) → length (take n es) ≤ n
   front-short n es = simp length-take (omega arith)
+
+-- what is opened is fewer than the places exactly where the count says so
+pub room : {A : Type 0} (n : ℕ) (es : List A) → ltb n (length es) ≡ ltb (length (take n es)) (length es)
+room n es = simp length-take (grind (arith, tells))
+
+zeros : (n p : ℕ) → _≡_ {A = ℕ} (getD (replicate n 0) p 0) 0
+zeros zero p = refl
+zeros (suc n) zero = refl
+zeros (suc n) (suc p) = zeros n p
+
+-- no station has a latest entry
+pub none-latest : (n : ℕ) → latest-of (replicate n 0) ≡ (λ p. 0)
+none-latest n = fun-ext (zeros n)
+
+latest-set : (l : List ℕ) (p v q : ℕ) → p < length l → getD (set l p v) q 0 ≡ cond (eqb q p) v (getD l q 0)
+latest-set [] p v q h = absurd (omega arith)
+latest-set (x ∷ l) zero v zero h = refl
+latest-set (x ∷ l) zero v (suc q) h = let e : eqb (suc q) 0 ≡ false = grind (arith, tells) in sym (ap (λ (b : Bool). cond b v (getD l q 0)) e)
+latest-set (x ∷ l) (suc p) v zero h = let e : eqb 0 (suc p) ≡ false = grind (arith, tells) in sym (ap (λ (b : Bool). cond b v x) e)
+latest-set (x ∷ l) (suc p) v (suc q) h =
+    let e : eqb (suc q) (suc p) ≡ eqb q p = grind (arith, tells) in
+    latest-set l p v q (omega arith) ∙ sym (ap (λ (b : Bool). cond b v (getD l q 0)) e)
+
+-- another latest entry of one station
+pub put-latest : (l : List ℕ) (p v : ℕ) → p < length l → latest-of (set l p v) ≡ put (latest-of l) p v
+unfolding put
+put-latest l p v h = fun-ext (λ q. latest-set l p v q h)
+
+-- the numbers below n, and n
+pub below-more : (n : ℕ) → put (λ q. ltb q n) n true ≡ (λ q. ltb q (n + 1))
+unfolding put
+below-more n = fun-ext (λ q. one q) where
+  one : (q : ℕ) → cond (eqb q n) true (ltb q n) ≡ ltb q (n + 1)
+  one q = grind (arith, tells)

@@ -4,15 +4,16 @@ use mathlib.Core.Logic.{_≢_, ⊎-elim}
 use mathlib.Core.Bool.{Bool, true, false, _&&_}
 use mathlib.Core.List.{List, [], _∷_}
 use Prim.Native.Nat.{ℕ, zero, suc, _+_, _-_, _*_, _%_, _<_, _≤_, min}
+use native.Mathlib.Nat.{mul-le-mul}
 use native.Mathlib.Omega.{arith}
 use lib.Dec.{leb, ltb}
 use lib.ListN.{length, getD, set, take}
 use lib.Seq.{getD-set-same, getD-set-other}
-use Rattle.std.proofs.shelf.Tests.{cases-lt}
+use Rattle.std.proofs.shelf.Tests.{cases-lt, lt-ltb}
 use Rattle.std.proofs.shelf.Ways.{tells}
 use Rattle.network.specs.declared.book.TickRow.{TickRow}
-use Rattle.network.specs.Books.{Row, within-churn}
-use Rattle.network.specs.Rings.{row-of, no-row, ring}
+use Rattle.network.specs.Books.{Row, Book, within-churn, allows}
+use Rattle.network.specs.Rings.{row-of, no-row, ring, can-note}
 
 -- the row at a place, round the ring
 abbrev pub row-at : List TickRow → ℕ → Row
@@ -123,3 +124,17 @@ module _ (rows : List TickRow) (a : ℕ) (r : TickRow) (whole : length rows ≡ 
       let m : n ≡ suc (n - 1) = omega arith in
       ap (ring (set rows ahead r) ahead) m ∙ newest-first (n - 1) (omega arith)
       ∙ ap (λ rest. row-of r ∷ rest) (sym (kept-older k d (n - 1) h (omega arith)))
+
+first-fits : (x y : ℕ) (b c : Bool) → b && (leb x y && c) ≡ true → x ≤ y
+first-fits x y b c h = grind (arith, tells)
+
+-- a move that the newest row allows can be noted
+pub allowed-can-note : (alpha clock : ℕ) (b : Book) (r : Row) (rs : List Row) → b .past ≡ r ∷ rs → alpha ≤ 65535 → r .present ≤ 65535
+    → allows alpha clock b ≡ true → can-note b ≡ true
+unfolding within-churn
+allowed-can-note alpha clock b r rs e low few h =
+    let product : alpha * r .present ≤ 65535 * 65535 = mul-le-mul low few in
+    let whole : ltb 0 clock && within-churn alpha (b .moves + 1) (r ∷ rs) ≡ true
+    = ap (λ (l : List Row). ltb 0 clock && within-churn alpha (b .moves + 1) l) (sym e) ∙ h in
+    let fits : 100 * (b .moves + 1) ≤ alpha * r .present = first-fits (100 * (b .moves + 1)) (alpha * r .present) (ltb 0 clock) (within-churn alpha ((b .moves + 1) + r .moves) rs) whole in
+    lt-ltb _ _ (omega arith)

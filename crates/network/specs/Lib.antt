@@ -13,8 +13,8 @@ pub mod Refusals
 pub mod Steps
 pub mod Runs
 pub mod Promises
-pub mod Worked
 pub mod Shown
 pub mod Limits
 pub mod Rings
 pub mod Entries
+pub mod Worked

@@ -2,7 +2,7 @@ use mathlib.Core.Path.{_∙_, ap}
 use mathlib.Core.Bool.{Bool, true}
 use Prim.Native.Nat.{ℕ}
 use Rattle.stations.specs.Members.{put}
-use Rattle.network.proofs.Tables.{below-more}
+use Rattle.network.proofs.Places.{below-more}
 use Rattle.network.proofs.lives.first_stations.Needs as need
 
 pub loop-p-again : need.loop-p-again

@@ -1,4 +1,4 @@
-use Rattle.network.proofs.Opening.{none-latest}
+use Rattle.network.proofs.Places.{none-latest}
 use Rattle.network.proofs.log.nobodys.Needs as need
 
 pub returns : need.returns

@@ -1,0 +1,10 @@
+pub mod Order
+pub mod Changes
+pub mod Sifting
+pub mod Keys
+pub mod Ticks
+pub mod Counts
+pub mod Searching
+pub mod Shifting
+pub mod Keeping
+pub mod Numbers
