@@ -1,4 +1,4 @@
-// A client of any carrier: looks at a copy, and takes it only where it is applied next.
+// A client of any carrier: takes a copy only where it is applied next.
 ghost use mathlib.Core.Path.{_≡_};
 ghost use mathlib.Core.Bool.{cond};
 ghost use lib.Dec.{ltb};
