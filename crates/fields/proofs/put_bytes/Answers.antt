@@ -4,5 +4,5 @@ use Rattle.fields.proofs.put_bytes.Goals as goal
 
 pub returns : goal.returns
 returns c =
-    let e = put_middle c.args.at c.args.buffer.now c.copy-from-slice.new.self c.args.bytes.now c.copy-from-slice.ensures.after in
+    let e = put_middle c.args.at c.args.buffer.now c.copy_from_slice.new.self c.args.bytes.now c.copy_from_slice.ensures.after in
     record { value = search rules; after = search rules }

@@ -24,10 +24,10 @@ returns-then-station-stations g c =
     }
 
 -- where no copy waits nothing is taken and nobody is turned
-pub returns-then-is-none : goal.returns-then-is-none
-returns-then-is-none g c =
+pub returns-then-is_none : goal.returns-then-is_none
+returns-then-is_none g c =
     let w = g.C.Carrier.waits c.args.carrier.now in
-    let gone = none_of (w c.args.number c.args.station) (ap is_some (sym c.look.ensures) ∙ c.is-none.ensures ∙ ap not c.if-is-none.true) in
+    let gone = none_of (w c.args.number c.args.station) (ap is_some (sym c.look.ensures) ∙ c.is_none.ensures ∙ ap not c.if-is_none.true) in
     let here = lt-ltb _ _ c.if-station-stations.false in
     record {
       value = λ d. sym (cond-true _ _ _ here ∙ ap (answered (g.R.Receiver.answer (get_or c.args.stations.now c.args.station d))) gone);

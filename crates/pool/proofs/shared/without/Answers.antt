@@ -7,16 +7,16 @@ use Rattle.pool.specs.declared.shared.Shared.{Shared}
 use Rattle.pool.specs.Pooled.{lesser}
 use Rattle.pool.proofs.shared.without.Goals as goal
 
-pub returns-then-is-empty : goal.returns-then-is-empty
+pub returns-then-is_empty : goal.returns-then-is_empty
 unfolding lesser
-returns-then-is-empty g c =
+returns-then-is_empty g c =
     let is = removed_is c.args.message.to _ c.args.station c.remove.ensures in
-    sym (cond-true _ _ _ (ap (λ (s : Stations). eqb (how_many (member s) 256) 0) (sym is) ∙ sym c.is-empty.ensures ∙ c.if-is-empty.true))
+    sym (cond-true _ _ _ (ap (λ (s : Stations). eqb (how_many (member s) 256) 0) (sym is) ∙ sym c.is_empty.ensures ∙ c.if-is_empty.true))
 
-pub returns-else-is-empty : goal.returns-else-is-empty
+pub returns-else-is_empty : goal.returns-else-is_empty
 unfolding lesser
-returns-else-is-empty g c =
+returns-else-is_empty g c =
     let is = removed_is c.args.message.to _ c.args.station c.remove.ensures in
     let made : Stations → Shared g.row.B.Denot = λ s. record { content = c.args.message.content; to = s } in
     ap (λ (s : Stations). Some (made s)) is
-    ∙ sym (cond-false _ _ _ (ap (λ (s : Stations). eqb (how_many (member s) 256) 0) (sym is) ∙ sym c.is-empty.ensures ∙ c.if-is-empty.false))
+    ∙ sym (cond-false _ _ _ (ap (λ (s : Stations). eqb (how_many (member s) 256) 0) (sym is) ∙ sym c.is_empty.ensures ∙ c.if-is_empty.false))

@@ -2,14 +2,14 @@ use Rattle.std.proofs.Common.{◌≡◌, ℕ, ◌+◌, ◌-◌, ◌<◌, ◌≤�
 use Rattle.rack.proofs.Shifting.{Shifted, shifted_none, shifted_more, shifted_all}
 use Rattle.rack.proofs.shift.put_at.Goals as goal
 
-pub offset-bounds-records-j : goal.offset-bounds-records-j
-offset-bounds-records-j g c = let h : c.loop-j.j - 1 < length c.args.records.now = omega arith in search rules
+pub offset_bounds-records-j : goal.offset_bounds-records-j
+offset_bounds-records-j g c = let h : c.loop-j.j - 1 < length c.args.records.now = omega arith in search rules
 
-pub offset-bounds-records-j-in-loop-j : goal.offset-bounds-records-j-in-loop-j
-offset-bounds-records-j-in-loop-j g c = let h : c.loop-j.j < length c.args.records.now = omega arith in search rules
+pub offset_bounds-records-j-in-loop-j : goal.offset_bounds-records-j-in-loop-j
+offset_bounds-records-j-in-loop-j g c = let h : c.loop-j.j < length c.args.records.now = omega arith in search rules
 
-pub offset-bounds-records-i : goal.offset-bounds-records-i
-offset-bounds-records-i g c = let h : c.args.i < length c.args.records.now = omega arith in search rules
+pub offset_bounds-records-i : goal.offset_bounds-records-i
+offset_bounds-records-i g c = let h : c.args.i < length c.args.records.now = omega arith in search rules
 
 pub loop-j-init : goal.loop-j-init
 loop-j-init g c = (c.requires.place, omega arith, shifted_none c.args.records.now c.args.len c.requires.spare)

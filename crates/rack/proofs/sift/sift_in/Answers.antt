@@ -4,11 +4,11 @@ use Rattle.rack.proofs.Sifting.{Sifting, sifted_drops, sifted_keeps, sifting_dro
 use Rattle.rack.proofs.sift.sift_in.Goals as goal
 use Rattle.rack.proofs.sift.sift_in.Goals.{in-Some, in-default}
 
-pub offset-bounds-records-i : goal.offset-bounds-records-i
-offset-bounds-records-i g c = let h : c.loop-i.i < length c.args.records.now = omega arith in search rules
+pub offset_bounds-records-i : goal.offset_bounds-records-i
+offset_bounds-records-i g c = let h : c.loop-i.i < length c.args.records.now = omega arith in search rules
 
-pub offset-bounds-records-count : goal.offset-bounds-records-count
-offset-bounds-records-count g c = let h : c.loop-i.count < length c.args.records.now = omega arith in search rules
+pub offset_bounds-records-count : goal.offset_bounds-records-count
+offset_bounds-records-count g c = let h : c.loop-i.count < length c.args.records.now = omega arith in search rules
 
 pub loop-i-init : goal.loop-i-init
 loop-i-init g c = record { done = refl; rest = refl; behind_i = omega arith; long = refl }

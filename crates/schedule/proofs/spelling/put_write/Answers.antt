@@ -9,12 +9,12 @@ pub returns : goal.returns
 returns c =
     let a = c.args in
     let v = a.value.now in
-    let long : length c.write-head.result ≡ 6 = ap length c.write-head.ensures in
+    let long : length c.write_head.result ≡ 6 = ap length c.write_head.ensures in
     let size : 4 + length v ≡ 2 + length (body_of (write a.station v)) = omega arith in
-    let whole : c.write-head.result ++ v ≡ spell (write a.station v) =
-    ap (λ (h : List ℕ). h ++ v) c.write-head.ensures
+    let whole : c.write_head.result ++ v ≡ spell (write a.station v) =
+    ap (λ (h : List ℕ). h ++ v) c.write_head.ensures
     ∙ ap (λ (n : ℕ). le2 n ++ (le2 8 ++ (le2 a.station ++ v))) size in
     record {
       value = omega (arith, c.put.ensures.value, c.put-body.ensures.value);
-      after = two_puts a.at c.put-body.result c.write-head.result v _ _ _ _ (omega (arith, c.requires.fits)) c.put-body.ensures.value c.put-body.ensures.after c.put.ensures.after whole;
+      after = two_puts a.at c.put-body.result c.write_head.result v _ _ _ _ (omega (arith, c.requires.fits)) c.put-body.ensures.value c.put-body.ensures.after c.put.ensures.after whole;
     }

@@ -8,7 +8,7 @@ returns-then-total c = let l = length_next c.args.records.now c.loop-item.item-i
 pub loop-item-preserved : goal.loop-item-preserved
 loop-item-preserved c =
     let l = length_next c.args.records.now c.loop-item.item-index c.loop-item-test.true in
-    (omega (arith, c.spelled-len-total.ensures.value, c.loop-item.invariant.0), omega arith)
+    (omega (arith, c.spelled_len-total.ensures.value, c.loop-item.invariant.0), omega arith)
 
 pub returns : goal.returns
 returns c = let l = length_end c.args.records.now c.loop-item.item-index c.loop-item-test.false in search rules

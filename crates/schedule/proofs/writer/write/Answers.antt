@@ -22,8 +22,8 @@ returns-in-err-len c =
       only = read_is_written;
     }
 
-pub returns-then-buffer-lt-MOST-BYTES : goal.returns-then-buffer-lt-MOST-BYTES
-returns-then-buffer-lt-MOST-BYTES c =
+pub returns-then-buffer-lt-MOST_BYTES : goal.returns-then-buffer-lt-MOST_BYTES
+returns-then-buffer-lt-MOST_BYTES c =
     let bs : List ℕ = all_bytes c.args.records.now in
     let buffer = c.args.buffer.now in
     let a = write_accepted (length buffer) (length bs) c.in-ok-len.len bs (read_of bs) c.in-ok-len.ensures in
@@ -35,8 +35,8 @@ returns-then-buffer-lt-MOST-BYTES c =
       only = read_is_written;
     }
 
-pub put-records-requires : goal.put-records-requires
-put-records-requires c =
+pub put_records-requires : goal.put_records-requires
+put_records-requires c =
     let n = length_read (all_bytes c.args.records.now) _ c.in-ok-len.ensures in
     record { fits = omega arith; short = n }
 
@@ -48,7 +48,7 @@ returns c =
     let t = a.0 ∙ room_enough (length buffer) bs (omega arith) in
     record {
       value = ap (λ (n : ℕ). Ok n) a.1 ∙ sym (ap how_long t);
-      after = c.put-records.ensures ∙ sym (ap (λ (r : Result (List ℕ) Refusal). buffer_after r buffer) t);
+      after = c.put_records.ensures ∙ sym (ap (λ (r : Result (List ℕ) Refusal). buffer_after r buffer) t);
       back = written_is_read;
       only = read_is_written;
     }

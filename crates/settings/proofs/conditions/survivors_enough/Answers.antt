@@ -3,8 +3,8 @@ use mir.Facts.{Fits-below}
 use Rattle.settings.proofs.Bounds.{part_below}
 use Rattle.settings.proofs.conditions.survivors_enough.Goals as goal
 
-pub overflow-mul-crashed-2 : goal.overflow-mul-crashed-2
-overflow-mul-crashed-2 c = Fits-below tt (part_below _ _ _ (omega arith) (omega arith) c.cube-p3.ensures.bound)
+pub overflow_mul-crashed-2 : goal.overflow_mul-crashed-2
+overflow_mul-crashed-2 c = Fits-below tt (part_below _ _ _ (omega arith) (omega arith) c.cube-p3.ensures.bound)
 
-pub overflow-add-result : goal.overflow-add-result
-overflow-add-result c = Fits-below tt (add-le-add (le_refl 100000000) (part_below _ _ _ (omega arith) (omega arith) c.cube-p3.ensures.bound))
+pub overflow_add-result : goal.overflow_add-result
+overflow_add-result c = Fits-below tt (add-le-add (le_refl 100000000) (part_below _ _ _ (omega arith) (omega arith) c.cube-p3.ensures.bound))

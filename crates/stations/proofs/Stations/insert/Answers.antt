@@ -4,8 +4,8 @@ use Rattle.stations.proofs.Sets.{words_length, word_small, words_set}
 use Rattle.stations.proofs.Words.{member_insert}
 use Rattle.stations.proofs.Stations.insert.Goals as goal
 
-pub invariant-of-self : goal.invariant-of-self
-invariant-of-self c =
+pub invariant_of-self : goal.invariant_of-self
+invariant_of-self c =
     let s = c.args.self.now in
     let old = word_small 4 s.words (c.args.p / 64) s.whole (omega (arith, c.ranges.p.fits)) in
     (words_set 4 s.words _ _ s.whole (or_lt 64 _ _ old (omega arith)), tt)

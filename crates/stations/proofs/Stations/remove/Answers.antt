@@ -7,8 +7,8 @@ use Rattle.stations.proofs.Stations.remove.Goals as goal
 lesser : (a b : ℕ) → a < 2 ^ 64 → bit_and a b < 2 ^ 64
 lesser a b h = omega (arith, and_le_l a b)
 
-pub invariant-of-self : goal.invariant-of-self
-invariant-of-self c =
+pub invariant_of-self : goal.invariant_of-self
+invariant_of-self c =
     let s = c.args.self.now in
     let i = c.args.p / 64 in
     let old = word_small 4 s.words i s.whole (omega (arith, c.ranges.p.fits)) in

@@ -11,5 +11,5 @@ returns-then-at-self g c =
 pub returns : goal.returns
 returns g c =
     let l = c.args.self.now in
-    c.entry-at.ensures ∙ sym (element_take l.len l.entries.now _ c.if-at-self.false)
-    ∙ ap (element (take l.len l.entries.now)) c.latest-place-at.ensures
+    c.entry_at.ensures ∙ sym (element_take l.len l.entries.now _ c.if-at-self.false)
+    ∙ ap (element (take l.len l.entries.now)) c.latest_place-at.ensures

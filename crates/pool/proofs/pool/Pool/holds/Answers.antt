@@ -5,4 +5,4 @@ use Rattle.pool.proofs.pool.Pool.holds.Goals as goal
 pub returns : goal.returns
 returns g c =
     let p = c.args.self.now in
-    c.is-some.ensures ∙ ap is_some c.get.ensures ∙ kept_under p.rack c.args.number p.wanted
+    c.is_some.ensures ∙ ap is_some c.get.ensures ∙ kept_under p.rack c.args.number p.wanted

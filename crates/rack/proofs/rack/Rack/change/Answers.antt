@@ -16,7 +16,7 @@ returns g c =
       sound = c.change.ensures.sound;
       after = waiting_changed es _ n q _ small (λ j.
           c.change.ensures.after j
-          ∙ ap (λ (k : ℕ). cond (eqb j k) (changed c.args.content (held_under es k)) (held_under es j)) c.key-of.ensures
+          ∙ ap (λ (k : ℕ). cond (eqb j k) (changed c.args.content (held_under es k)) (held_under es j)) c.key_of.ensures
           ∙ ap (λ o. cond (eqb j (key_of n q)) (changed c.args.content o) (held_under es j)) (sym (waiting_at es n q small)));
       same = c.change.ensures.same;
     }

@@ -9,4 +9,4 @@ pub returns : goal.returns
 unfolding stored
 returns g c =
     let es = kept c.args.self.now.store in
-    c.get.ensures ∙ ap (held_under es) c.key-of.ensures ∙ sym (waiting_at es c.args.number c.args.station c.ranges.station.fits)
+    c.get.ensures ∙ ap (held_under es) c.key_of.ensures ∙ sym (waiting_at es c.args.number c.args.station c.ranges.station.fits)

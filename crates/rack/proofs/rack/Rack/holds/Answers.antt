@@ -11,4 +11,4 @@ unfolding stored
 returns g c =
     let r = c.args.self.now in
     let es = kept r.store in
-    c.busy.ensures ∙ ap (λ (k : ℕ). busy (k + 256) (drop (prefix_len (before k) es) es)) c.key-of-key.ensures ∙ busy_under es c.args.number c.requires.order c.ranges.number.fits
+    c.busy.ensures ∙ ap (λ (k : ℕ). busy (k + 256) (drop (prefix_len (before k) es) es)) c.key_of-key.ensures ∙ busy_under es c.args.number c.requires.order c.ranges.number.fits

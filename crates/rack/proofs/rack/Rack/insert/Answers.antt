@@ -9,10 +9,10 @@ use Rattle.rack.proofs.Counts.{copies_lives}
 use Rattle.rack.proofs.Keys.{waiting_at, waiting_changed}
 use Rattle.rack.proofs.rack.Rack.insert.Goals as goal
 
-pub returns-then-is-some : goal.returns-then-is-some
-returns-then-is-some g c =
+pub returns-then-is_some : goal.returns-then-is_some
+returns-then-is_some g c =
     let r = c.args.self.now in
-    let full : spare r c.args.number c.args.station ≡ false = and_left _ _ (not_from_true _ (ap is_some (sym c.get.ensures) ∙ sym c.is-some.ensures ∙ c.if-is-some.true)) in
+    let full : spare r c.args.number c.args.station ≡ false = and_left _ _ (not_from_true _ (ap is_some (sym c.get.ensures) ∙ sym c.is_some.ensures ∙ c.if-is_some.true)) in
     record { sound = c.requires; value = sym full; after = sym (cond-false _ _ _ full); same = refl }
 
 pub insert-requires : goal.insert-requires
@@ -20,11 +20,11 @@ unfolding stored capacity
 insert-requires g c =
     let r = c.args.self.now in
     let es = kept r.store in
-    let gone = none_of (stored r c.args.number c.args.station) (ap is_some (sym c.get.ensures) ∙ sym c.is-some.ensures ∙ c.if-is-some.false) in
+    let gone = none_of (stored r c.args.number c.args.station) (ap is_some (sym c.get.ensures) ∙ sym c.is_some.ensures ∙ c.if-is_some.false) in
     record {
       sound = c.requires;
-      small = omega (arith, c.key-of.ensures, c.ranges.number.fits, c.ranges.station.fits);
-      gone = ap (held_under es) c.key-of.ensures ∙ sym (waiting_at es c.args.number c.args.station c.ranges.station.fits) ∙ gone;
+      small = omega (arith, c.key_of.ensures, c.ranges.number.fits, c.ranges.station.fits);
+      gone = ap (held_under es) c.key_of.ensures ∙ sym (waiting_at es c.args.number c.args.station c.ranges.station.fits) ∙ gone;
       spare = omega (arith, c.count.ensures.value, copies_lives es c.requires.order, c.requires.count, c.capacity.ensures, c.if-count-capacity.false);
     }
 
@@ -37,13 +37,13 @@ returns g c =
     let q = c.args.station in
     let held = c.args.held in
     let few : copies (stored r) < capacity r = omega (arith, c.count.ensures.value, c.capacity.ensures, c.if-count-capacity.false) in
-    let free : spare r n q ≡ true = and_from _ _ (not_from_false _ (ap is_some (sym c.get.ensures) ∙ sym c.is-some.ensures ∙ c.if-is-some.false)) (lt-ltb _ _ few) in
+    let free : spare r n q ≡ true = and_from _ _ (not_from_false _ (ap is_some (sym c.get.ensures) ∙ sym c.is_some.ensures ∙ c.if-is_some.false)) (lt-ltb _ _ few) in
     record {
       sound = c.insert.ensures.sound;
       value = sym free;
       after =
           waiting_changed es _ n q (Some held) c.ranges.station.fits
-          (λ j. c.insert.ensures.after j ∙ ap (λ (k : ℕ). cond (eqb j k) (Some held) (held_under es j)) c.key-of.ensures)
+          (λ j. c.insert.ensures.after j ∙ ap (λ (k : ℕ). cond (eqb j k) (Some held) (held_under es j)) c.key_of.ensures)
           ∙ sym (cond-true _ _ _ free);
       same = c.insert.ensures.same;
     }

@@ -3,7 +3,7 @@ use Rattle.rack.specs.Entries.{before}
 use Rattle.rack.proofs.Searching.{place_within}
 use Rattle.rack.proofs.store.Store.busy.Goals as goal
 
-pub busy-from-requires : goal.busy-from-requires
-busy-from-requires g c =
+pub busy_from-requires : goal.busy_from-requires
+busy_from-requires g c =
     let s = c.args.self.now in
     (omega (arith, c.place.ensures, place_within s.records.now s.len c.requires.within (before c.args.key)), c.requires.within)

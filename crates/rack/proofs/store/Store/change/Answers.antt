@@ -14,8 +14,8 @@ returns-then-i-self g c =
     let gone = look_past s.records.now s.len c.requires.sound.within c.requires.sound.order c.args.key c.place-i.result c.place-i.ensures c.if-i-self.true in
     record { sound = c.requires.sound; same = refl; after = unchanged (held_under (kept s)) c.args.key c.args.content gone }
 
-pub offset-bounds-self-i : goal.offset-bounds-self-i
-offset-bounds-self-i g c = let h : c.place-i.result < size c.args.self.now = omega (arith, c.requires.sound.within, c.if-i-self.false) in search rules
+pub offset_bounds-self-i : goal.offset_bounds-self-i
+offset_bounds-self-i g c = let h : c.place-i.result < size c.args.self.now = omega (arith, c.requires.sound.within, c.if-i-self.false) in search rules
 
 pub returns-then-entry-key : goal.returns-then-entry-key
 returns-then-entry-key g c =
@@ -43,8 +43,8 @@ rewrite-requires g c =
       place = c.if-i-self.false;
       read = ap (get_or s.records.now c.place-i.result) c.index-self-i.is;
       live = c.if-not-entry.false;
-      key = ap (λ (e : Entry g.row.V.Denot). e.key) c.with-change.ensures ∙ changed_key x c.args.content;
-      sent = ap (λ (e : Entry g.row.V.Denot). e.held.sent) c.with-change.ensures ∙ changed_sent x c.args.content;
+      key = ap (λ (e : Entry g.row.V.Denot). e.key) c.with_change.ensures ∙ changed_key x c.args.content;
+      sent = ap (λ (e : Entry g.row.V.Denot). e.held.sent) c.with_change.ensures ∙ changed_sent x c.args.content;
     }
 
 pub returns : goal.returns
@@ -62,7 +62,7 @@ returns g c =
       sound = c.rewrite.ensures.sound;
       same = c.rewrite.ensures.same;
       after = λ j.
-          ap (λ l. held_under l j) (c.rewrite.ensures.after ∙ ap (set (kept s) i) c.with-change.ensures)
+          ap (λ l. held_under l j) (c.rewrite.ensures.after ∙ ap (set (kept s) i) c.with_change.ensures)
           ∙ rewritten_held s ok i x new c.if-i-self.false read (changed_key x c.args.content) j
           ∙ ap (λ (n : ℕ). cond (eqb j n) (cond new.live (Some new.held) None) (held_under (kept s) j)) c.if-entry-key.false
           ∙ ap (λ o. cond (eqb j k) o (held_under (kept s) j)) (changed_held x c.args.content ∙ sym (ap (changed c.args.content) here));

@@ -6,11 +6,11 @@ use Rattle.rack.proofs.Searching.{place_within}
 use Rattle.rack.proofs.Keeping.{rewritten_some, rewritten}
 use Rattle.rack.proofs.store.Store.rewrite.Goals as goal
 
-pub offset-bounds-self-i : goal.offset-bounds-self-i
-offset-bounds-self-i g c = let h : c.args.i < size c.args.self.now = omega (arith, c.requires.sound.within) in search rules
+pub offset_bounds-self-i : goal.offset_bounds-self-i
+offset_bounds-self-i g c = let h : c.args.i < size c.args.self.now = omega (arith, c.requires.sound.within) in search rules
 
-pub overflow-sub-self : goal.overflow-sub-self
-overflow-sub-self g c = rewritten_some c.args.self.now c.requires.sound c.args.i c.args.old c.args.new c.requires.place c.requires.read c.requires.key c.requires.live
+pub overflow_sub-self : goal.overflow_sub-self
+overflow_sub-self g c = rewritten_some c.args.self.now c.requires.sound c.args.i c.args.old c.args.new c.requires.place c.requires.read c.requires.key c.requires.live
 
 pub front-self-requires : goal.front-self-requires
 front-self-requires g c =

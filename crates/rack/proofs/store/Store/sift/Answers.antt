@@ -5,8 +5,8 @@ use Rattle.rack.proofs.store.Store.sift.Goals as goal
 pub returns : goal.returns
 returns g c =
     record {
-      sound = sifted_sound (g.T.Trim.trimmed c.args.rule.now) c.args.self.now _ c.requires c.sift-in-left.ensures.kept c.sift-in-left.auto.records c.sift-in-left.ensures.within refl refl refl;
-      same = c.sift-in-left.auto.records;
-      after = c.sift-in-left.ensures.kept;
+      sound = sifted_sound (g.T.Trim.trimmed c.args.rule.now) c.args.self.now _ c.requires c.sift_in-left.ensures.kept c.sift_in-left.auto.records c.sift_in-left.ensures.within refl refl refl;
+      same = c.sift_in-left.auto.records;
+      after = c.sift_in-left.ensures.kept;
       dense = refl;
     }

@@ -16,8 +16,8 @@ returns-in-default c =
     let e = turn_past_end r.stage r.at r.file.now (omega arith) in
     search rules
 
-pub overflow-add-self : goal.overflow-add-self
-overflow-add-self c =
+pub overflow_add-self : goal.overflow_add-self
+overflow_add-self c =
     let r = c.args.self.now in
     let g = c.in-Ok.ensures ∙ ap (record_of r.stage) (take_rest r.file.now r.at) in
     let b : c.in-Ok.field-0.size ≤ length (drop r.at r.file.now) = (record_size r.stage (drop r.at r.file.now) _ (sym g)).1 in

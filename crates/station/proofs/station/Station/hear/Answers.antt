@@ -4,17 +4,17 @@ use Rattle.network.specs.Limits.{can_rise}
 use Rattle.network.specs.Saying.{says}
 use Rattle.station.proofs.station.Station.hear.Goals as goal
 
-pub hear-echo-requires : goal.hear-echo-requires
+pub hear_echo-requires : goal.hear_echo-requires
 unfolding hear says can_rise
-hear-echo-requires g c = search rules
+hear_echo-requires g c = search rules
 
-pub hear-response-requires : goal.hear-response-requires
+pub hear_response-requires : goal.hear_response-requires
 unfolding hear says can_rise
-hear-response-requires g c = search rules
+hear_response-requires g c = search rules
 
-pub hear-ack-requires : goal.hear-ack-requires
+pub hear_ack-requires : goal.hear_ack-requires
 unfolding hear says can_rise
-hear-ack-requires g c = search rules
+hear_ack-requires g c = search rules
 
 pub returns-in-Enter : goal.returns-in-Enter
 unfolding hear says can_rise

@@ -3,8 +3,8 @@ use Rattle.carrier.specs.Counts.{by_message, fits}
 use Rattle.pool.proofs.Messages.{dropped_whole, dropped_wanted, pooled_dropped}
 use Rattle.pool.proofs.pool.calls.PoolCarrier.drop_for.Goals as goal
 
-pub invariant-of-self : goal.invariant-of-self
-invariant-of-self g c =
+pub invariant_of-self : goal.invariant_of-self
+invariant_of-self g c =
     let p = c.args.self.now in
     let t = c.sift.new.self in
     let done = c.sift.ensures in (

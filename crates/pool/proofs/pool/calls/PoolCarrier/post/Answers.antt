@@ -8,21 +8,21 @@ use Rattle.pool.specs.Meaning.{pooled}
 use Rattle.pool.proofs.Messages.{posting_gone, posting_spare, changed_whole, changed_wanted, pooled_posted}
 use Rattle.pool.proofs.pool.calls.PoolCarrier.post.Goals as goal
 
-pub returns-then-is-empty : goal.returns-then-is-empty
+pub returns-then-is_empty : goal.returns-then-is_empty
 unfolding receivers
-returns-then-is-empty g c =
+returns-then-is_empty g c =
     let p = c.args.item.now in
-    let fit = sym c.room-one.ensures ∙ c.if-not-room-one.false in
-    let none = posted_none p (pooled c.args.self.now.rack) (eqb-true _ 0 (sym c.is-empty.ensures ∙ c.if-is-empty.true)) in
+    let fit = sym c.room_one.ensures ∙ c.if-not-room_one.false in
+    let none = posted_none p (pooled c.args.self.now.rack) (eqb-true _ 0 (sym c.is_empty.ensures ∙ c.if-is_empty.true)) in
     record { value = sym (ap fitted fit); after = sym (cond-true _ _ _ fit ∙ none); same = refl }
 
-pub invariant-of-self : goal.invariant-of-self
+pub invariant_of-self : goal.invariant_of-self
 unfolding receivers
-invariant-of-self g c =
+invariant_of-self g c =
     let s = c.args.self.now in
     let p = c.args.item.now in
-    let fit = sym c.room-one.ensures ∙ c.if-not-room-one.false in
-    let some = eqb-false _ 0 (sym c.is-empty.ensures ∙ c.if-is-empty.false) in
+    let fit = sym c.room_one.ensures ∙ c.if-not-room_one.false in
+    let some = eqb-false _ 0 (sym c.is_empty.ensures ∙ c.if-is_empty.false) in
     let done = c.insert.ensures in
     let is = done.after ∙ cond-true _ _ _ (posting_spare s.rack p s.whole s.wanted fit some) in
     let many : 0 < receivers p = ⊎_elim (λ z. absurd (some z)) (λ z. omega arith) (cases_eq (receivers p) 0) in (
@@ -50,8 +50,8 @@ unfolding receivers
 returns g c =
     let s = c.args.self.now in
     let p = c.args.item.now in
-    let fit = sym c.room-one.ensures ∙ c.if-not-room-one.false in
-    let some = eqb-false _ 0 (sym c.is-empty.ensures ∙ c.if-is-empty.false) in
+    let fit = sym c.room_one.ensures ∙ c.if-not-room_one.false in
+    let some = eqb-false _ 0 (sym c.is_empty.ensures ∙ c.if-is_empty.false) in
     let is = c.insert.ensures.after ∙ cond-true _ _ _ (posting_spare s.rack p s.whole s.wanted fit some) in
     record {
       value = sym (ap fitted fit);

@@ -16,8 +16,8 @@ returns-in-default g c =
     let gone = ap (λ o. opened o c.args.station) (sym c.get-message.ensures) ∙ sym c.open.ensures ∙ c.in-default.is in
     record { value = sym (ap found gone); after = at_same (pooled r) c.args.number c.args.station None gone; same = refl }
 
-pub invariant-of-self : goal.invariant-of-self
-invariant-of-self g c =
+pub invariant_of-self : goal.invariant_of-self
+invariant_of-self g c =
     let s = c.args.self.now in
     let q = c.args.station in
     let k = c.in-Some-message.kept in

@@ -9,14 +9,14 @@ pub returns-then-before-eq0 : goal.returns-then-before-eq0
 unfolding receivers
 returns-then-before-eq0 g c =
     let r = c.args.self.now.rack in
-    c.room-one.ensures
+    c.room_one.ensures
     ∙ sym (silent_first by_copy refl (capacity r) (stored r) c.args.first.now (sym c.count-before.ensures.value ∙ c.if-before-eq0.true) c.args.second.now)
 
 pub returns-then-after-eq0 : goal.returns-then-after-eq0
 unfolding receivers
 returns-then-after-eq0 g c =
     let r = c.args.self.now.rack in
-    c.room-one-then-after-eq0.ensures
+    c.room_one-then-after-eq0.ensures
     ∙ sym (silent_second by_copy refl (capacity r) (stored r) c.args.second.now (sym c.count-after.ensures.value ∙ c.if-after-eq0.true) c.args.first.now)
 
 pub returns-then-before-after : goal.returns-then-before-after
