@@ -1,4 +1,6 @@
 // Posts, looks and takes a second of both makes, for memories that grow.
+#![tactic(auto)]
+
 mod load;
 
 use crate::load::{Times, measure};

@@ -1,4 +1,6 @@
 // Long pseudo-random sequences of calls on a pool and a tray, held against a plain list of copies.
+#![tactic(auto)]
+
 mod list;
 mod play;
 

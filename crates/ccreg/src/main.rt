@@ -1,4 +1,6 @@
 // Judges the schedule file on standard input, and prints what it says or why it is refused.
+#![tactic(auto)]
+
 use judge::{MOST_BYTES, report};
 use std::io::Read;
 

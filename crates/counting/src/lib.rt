@@ -1,5 +1,7 @@
 // Counting stations under churn: how many pass a test, how far churn moves their number, and what the conditions on the settings give.
 // Each function stands for what it ensures, and the number that it returns says nothing.
+#![tactic(auto)]
+
 ghost use Rattle.counting.specs.Census.{TwoLargeSetsMeet};
 ghost use Rattle.counting.specs.Windows.{GrowthOverWindows};
 ghost use Rattle.counting.specs.Conditions.{SomeoneLasts, SomeoneCountedLasts, EchoesSuffice, RepliesSuffice, QuorumsOverlap};

@@ -1,4 +1,6 @@
 // Little-endian fields of two and four bytes, split off the front of a part and put into a buffer.
+#![tactic(auto)]
+
 ghost use Rattle.std.specs.Prelude.{◌≡◌, ◌<◌, ◌≤◌, length, drop, MatchOption};
 ghost use Rattle.fields.specs.Numbers.{two, four, signed_four, le2, le4, signed_le4};
 ghost use Rattle.fields.specs.Patches.{after_put, put_end};

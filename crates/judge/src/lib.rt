@@ -1,4 +1,6 @@
 // Judges a whole schedule file: what it says, or the first reason why it is refused.
+#![tactic(auto)]
+
 mod contents;
 mod fault;
 mod judging;

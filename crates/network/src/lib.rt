@@ -1,4 +1,6 @@
 // The rules of the network: what a station keeps and does, what messages say, steps, limit book, log, runs.
+#![tactic(auto)]
+
 mod cases;
 mod content;
 mod entry;

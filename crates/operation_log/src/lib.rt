@@ -1,4 +1,6 @@
 // The log of operations as code, over lent entries.
+#![tactic(auto)]
+
 mod entries;
 mod log;
 

@@ -1,3 +1,5 @@
 // A carrier that keeps one record a message.
+#![tactic(auto)]
+
 pub mod pool;
 pub mod shared;

@@ -1,4 +1,6 @@
 // Records kept in lent memory in rising order of message number and station: a base for makes of carriers.
+#![tactic(auto)]
+
 pub mod entry;
 pub mod rack;
 mod search;

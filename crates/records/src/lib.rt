@@ -1,4 +1,6 @@
 // The records that are delivered, with their bytes and their texts.
+#![tactic(auto)]
+
 mod class;
 mod gas;
 mod response;

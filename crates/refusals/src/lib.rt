@@ -1,4 +1,6 @@
 // What every refusal tells its caller: a number, the layer that refused, and the place.
+#![tactic(auto)]
+
 ghost use Rattle.std.specs.Prelude.{Some};
 ghost use Rattle.refusals.specs.Texts.{refusal_text};
 

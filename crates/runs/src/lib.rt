@@ -1,4 +1,6 @@
 // What holds of every run of the rules, whatever the record, the room rule, the admitted settings and the steps.
+#![tactic(auto)]
+
 mod examples;
 mod small;
 

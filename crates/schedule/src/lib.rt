@@ -1,4 +1,6 @@
 // Schedule files: settings, a start, and steps, each a schedule record of its own length and kind.
+#![tactic(auto)]
+
 use records::Class;
 use settings::Choice;
 

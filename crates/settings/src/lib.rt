@@ -1,4 +1,6 @@
 // The settings of a network: which choices are admitted, and what a refusal of one says.
+#![tactic(auto)]
+
 mod cases;
 mod choice;
 mod conditions;

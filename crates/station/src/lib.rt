@@ -1,4 +1,6 @@
 // Stations as code: what each message does to one, how it begins an operation, enters, leaves and crashes.
+#![tactic(auto)]
+
 mod hearing;
 mod knowing;
 mod letters;

@@ -1,4 +1,6 @@
 // A set of stations, kept as one bit for each of the 256 station numbers.
+#![tactic(auto)]
+
 ghost use Rattle.std.specs.Prelude.{◌≡◌, true};
 ghost use Rattle.stations.specs.Words.{are_words};
 

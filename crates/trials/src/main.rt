@@ -1,5 +1,7 @@
 // Prints the report of every file in a list of cases. A case is a line with a name and a file: parts that
 // are joined by `+`, each of them bytes in hexadecimal, with `*` and a number where they come more than once.
+#![tactic(auto)]
+
 ghost use Rattle.std.specs.Prelude.{◌<◌};
 
 use anyhow::anyhow;
