@@ -2,3 +2,4 @@ pub mod Digits
 pub mod Counting
 pub mod Words
 pub mod Sets
+pub mod Removing

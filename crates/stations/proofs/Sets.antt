@@ -8,25 +8,16 @@ use lib.Pow.{mod-pow-add}
 use Rattle.std.proofs.lemmas.Bool.{and_parts, and_from, lt-ltb, ltb-true, cond-true, cond-false, cases_Bool, cases_eq, cases_lt}
 use Rattle.std.proofs.lemmas.Bool.Decides.{nat_tests}
 use Rattle.stations.specs.declared.Stations.{Stations}
-use Rattle.stations.specs.Members.{member, put, set_of, removed}
-use Rattle.stations.specs.Words.{bit, bit_set, are_words, bits, bits_small, word_of, words_of}
+use Rattle.stations.specs.Members.{member, set_of}
+use Rattle.stations.specs.Words.{bit, bit_set, are_words, bits, bits_small, word_of, words_of, words_small}
 use Rattle.stations.proofs.Digits.{bit_small, set_or, set_zero, set_pow}
 use Rattle.stations.proofs.Words.{member_at, member_past}
-
-false_true : false ≡ true → ◌≡◌ {A = ℕ} 0 1
-false_true h = cc
 
 pub words_length : (n : ℕ) (ws : List ℕ) → are_words n ws ≡ true → length ws ≡ n
 words_length zero [] h = refl
 words_length zero (w ∷ ws) h = cc
 words_length (suc n) [] h = cc
 words_length (suc n) (w ∷ ws) h = ap suc (words_length n ws (and_parts (ltb w (2 ^ 64)) (are_words n ws) h).1)
-
-pub word_small : (n : ℕ) (ws : List ℕ) (j : ℕ) → are_words n ws ≡ true → j < n → get_or ws j 0 < 2 ^ 64
-word_small zero ws j h l = absurd (omega arith)
-word_small (suc n) [] j h l = absurd (omega (arith, false_true h))
-word_small (suc n) (w ∷ ws) zero h l = ltb-true w (2 ^ 64) (and_parts (ltb w (2 ^ 64)) (are_words n ws) h).0
-word_small (suc n) (w ∷ ws) (suc j) h l = word_small n ws j (and_parts (ltb w (2 ^ 64)) (are_words n ws) h).1 (omega arith)
 
 -- one word changed
 pub words_set : (n : ℕ) (ws : List ℕ) (j w : ℕ) → are_words n ws ≡ true → w < 2 ^ 64 → are_words n (set ws j w) ≡ true
@@ -81,7 +72,7 @@ bits_set f (suc n) i =
     (λ ne. grind (arith, nat_tests))
     (cases_eq i n)
 
-four_words : (ws : List ℕ) → are_words 4 ws ≡ true → get_or ws 0 0 ∷ get_or ws 1 0 ∷ get_or ws 2 0 ∷ get_or ws 3 0 ∷ [] ≡ ws
+pub four_words : (ws : List ℕ) → are_words 4 ws ≡ true → get_or ws 0 0 ∷ get_or ws 1 0 ∷ get_or ws 2 0 ∷ get_or ws 3 0 ∷ [] ≡ ws
 four_words (a ∷ b ∷ c ∷ d ∷ []) h = refl
 four_words [] h = cc
 four_words (a ∷ []) h = let z = words_length 4 (a ∷ []) h in absurd (omega arith)
@@ -93,7 +84,7 @@ word_back : (s : Stations) (j : ℕ) → j < 4 → word_of (member s) j ≡ get_
 word_back s j l =
     bits_same (λ i. member s (64 * j + i)) (bit_set (get_or s.words j 0)) 64 (λ i k. member_at s (64 * j + i) j i (omega arith) (omega arith) (omega arith))
     ∙ bits_back (get_or s.words j 0) 64
-    ∙ mod-eq_of_lt (word_small 4 s.words j s.whole l)
+    ∙ mod-eq_of_lt (words_small 4 s.words j s.whole l)
 
 words_back : (s : Stations) → words_of (member s) ≡ s.words
 words_back s =
@@ -105,7 +96,7 @@ words_back s =
     cc
 
 -- the words decide: what a set keeps to is one fact
-same_words : (s t : Stations) → s.words ≡ t.words → s ≡ t
+pub same_words : (s t : Stations) → s.words ≡ t.words → s ≡ t
 same_words s t e = λ i. record { words = e i; whole = is_prop→PathP (λ j. are_words 4 (e j) ≡ true) (λ j. Bool-set _ _) s.whole t.whole i }
 
 -- every set is the set of its members
@@ -117,7 +108,7 @@ set_of_member s = same_words (set_of (member s)) s (words_back s)
 pub same_members : (s t : Stations) → member s ≡ member t → s ≡ t
 same_members s t e = sym (set_of_member s) ∙ ap set_of e ∙ set_of_member t
 
-four_each : (f : ℕ → ℕ) (j : ℕ) → j < 4 → get_or (f 0 ∷ f 1 ∷ f 2 ∷ f 3 ∷ []) j 0 ≡ f j
+pub four_each : (f : ℕ → ℕ) (j : ℕ) → j < 4 → get_or (f 0 ∷ f 1 ∷ f 2 ∷ f 3 ∷ []) j 0 ≡ f j
 four_each f zero h = refl
 four_each f (suc zero) h = refl
 four_each f (suc (suc zero)) h = refl
@@ -137,14 +128,3 @@ member_set_of f past =
     ∙ ap f (omega arith))
     (λ l. member_past (set_of f) p l ∙ sym (past p l))
     (cases_lt p 256))
-
--- taking out a station, by its members
-pub member_removed : (s : Stations) (p : ℕ) → member (removed s p) ≡ put (member s) p false
-unfolding put
-member_removed s p = member_set_of (put (member s) p false) (λ q l. ⊎_elim
-    (λ t. cond-true (eqb q p) false (member s q) t)
-    (λ t. cond-false (eqb q p) false (member s q) t ∙ member_past s q l)
-    (cases_Bool (eqb q p)))
-
-pub removed_is : (s t : Stations) (p : ℕ) → member t ≡ put (member s) p false → t ≡ removed s p
-removed_is s t p e = sym (set_of_member t) ∙ ap set_of e

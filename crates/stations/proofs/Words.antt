@@ -80,15 +80,21 @@ member_insert s t p n h e =
     ∙ ap (λ (y : Bool). bit_set old i || y) (set_pow (p % 64) i)
     ∙ grind (arith, nat_tests))
 
-pub member_remove : (s t : Stations) (p : ℕ) → length s.words ≡ 4 → p < 256
-    → t.words ≡ set s.words (p / 64) (bit_and (get_or s.words (p / 64) 0) ((2 ^ 64 - 1) - (1 * 2 ^ (p % 64)) % 2 ^ 64)) → member t ≡ put (member s) p false
-member_remove s t p n h e =
+-- one word is masked, so that the bit of the station goes
+pub member_masked : (s t : Stations) (p : ℕ) → p < 256
+    → ((j : ℕ) → j < 4 → get_or t.words j 0 ≡ cond (eqb j (p / 64)) (bit_and (get_or s.words (p / 64) 0) ((2 ^ 64 - 1) - (1 * 2 ^ (p % 64)) % 2 ^ 64)) (get_or s.words j 0))
+    → member t ≡ put (member s) p false
+member_masked s t p h each =
     let old = get_or s.words (p / 64) 0 in
     let small : p % 64 < 64 = omega arith in
-    member_changed s t p _ false h (λ j l. ap (λ ws. get_or ws j 0) e ∙ set_each s.words (p / 64) _ j n l (omega arith))
+    member_changed s t p _ false h each
     (λ i l.
     ap (λ (x : ℕ). bit_set (bit_and old ((2 ^ 64 - 1) - x)) i) (one_shl (p % 64) 64 (omega arith))
     ∙ set_without old (2 ^ (p % 64)) i l (pow-lt small) ∙ ap (λ (y : Bool). bit_set old i && not y) (set_pow (p % 64) i) ∙ grind (arith, nat_tests))
+
+pub member_remove : (s t : Stations) (p : ℕ) → length s.words ≡ 4 → p < 256
+    → t.words ≡ set s.words (p / 64) (bit_and (get_or s.words (p / 64) 0) ((2 ^ 64 - 1) - (1 * 2 ^ (p % 64)) % 2 ^ 64)) → member t ≡ put (member s) p false
+member_remove s t p n h e = member_masked s t p h (λ j l. ap (λ ws. get_or ws j 0) e ∙ set_each s.words (p / 64) _ j n l (omega arith))
 
 spread : (q : ℕ) (a b : Bool) → ltb q 256 && (a || b) ≡ (ltb q 256 && a) || (ltb q 256 && b)
 spread q a b = grind (arith, nat_tests)

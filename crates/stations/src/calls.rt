@@ -1,6 +1,6 @@
 // What can be asked of a set of stations, and done with it.
 ghost use Rattle.std.specs.Prelude.{◌≡◌, ◌≤◌, true, false, ◌==◌};
-ghost use Rattle.stations.specs.Members.{member, nobody, either, only, put, how_many};
+ghost use Rattle.stations.specs.Members.{member, nobody, either, only, put, how_many, removed};
 ghost use Rattle.stations.specs.Words.{bit_set};
 
 use crate::Stations;
@@ -27,7 +27,8 @@ impl Stations {
     }
 
     pub fn remove(&mut self, p: u8)
-        ensures { member self.new ≡ put (member self.old) p false }
+        ensures value { self.new ≡ removed self.old p }
+        ensures meaning { member self.new ≡ put (member self.old) p false }
     {
         let i = p as usize / 64;
         self.words[i] = self.words[i] & !(1u64 << (p % 64));

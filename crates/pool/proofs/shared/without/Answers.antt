@@ -2,7 +2,7 @@ use Rattle.std.proofs.Common.{ℕ, cond, eqb, Some, None, sym, ap, ◌∙◌}
 use Rattle.std.proofs.lemmas.Bool.{cond-true, cond-false}
 use Rattle.stations.specs.Members.{member, how_many}
 use Rattle.stations.specs.declared.Stations.{Stations}
-use Rattle.stations.proofs.Sets.{removed_is}
+use Rattle.stations.proofs.Removing.{removed_is}
 use Rattle.pool.specs.declared.shared.Shared.{Shared}
 use Rattle.pool.specs.Pooled.{lesser}
 use Rattle.pool.proofs.shared.without.Goals as goal

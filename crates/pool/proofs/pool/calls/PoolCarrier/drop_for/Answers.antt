@@ -7,22 +7,15 @@ pub invariant_of-self : goal.invariant_of-self
 invariant_of-self g c =
     let p = c.args.self.now in
     let t = c.sift.new.self in
-    let done = c.sift.ensures in (
-      done.sound.within,
-      (
-        done.sound.order,
-        (
-          done.sound.count,
-          (
-            done.sound.front,
-            (
-              done.sound.ticks,
-              (dropped_whole p.rack t c.args.station done.after p.whole, (dropped_wanted p.rack t c.args.station done.after p.wanted, tt)),
-            ),
-          ),
-        ),
-      ),
-    )
+    let done = c.sift.ensures in record {
+      within = done.sound.within;
+      order = done.sound.order;
+      count = done.sound.count;
+      front = done.sound.front;
+      ticks = done.sound.ticks;
+      whole = dropped_whole p.rack t c.args.station done.after p.whole;
+      wanted = dropped_wanted p.rack t c.args.station done.after p.wanted;
+    }
 
 pub returns : goal.returns
 returns g c =
