@@ -9,9 +9,9 @@ use Rattle.carrier.specs.declared.message.Post.{Post}
 abbrev pub Room : Type 0 → Type 0
 Room X = Waits (Held X) → List (Post X) → Bool
 
-pub record Laws {S X : Type 0} (waits : S → Waits (Held X)) (room : S → Room X) (ample : S → Bool) : Type 0 where
+pub record Laws {S X : Type 0} (waits : S → Waits (Held X)) (room : S → Room X) (ample : S → Type 0) : Type 0 where
   -- empty, it has room for a single step's messages, if enough memory was lent
-  pub starts : (s : S) (ps : List (Post X)) → ample s ≡ true → StepSized ps → room s nothing ps ≡ true
+  pub starts : (s : S) (ps : List (Post X)) → ample s → StepSized ps → room s nothing ps ≡ true
   -- removing copies never loses room
   pub shrinks : (s : S) (v w : Waits (Held X)) (ps : List (Post X)) → Within v w → room s w ps ≡ true → room s v ps ≡ true
   -- messages that fit together fit posted one by one

@@ -13,10 +13,10 @@ pub fn hand_over<B: Copy, C: Carrier<B>, R: Receiver<B>>(
     station: u8,
     stations: &mut [R],
 ) -> Option<R::Answer>
-    ensures value { (d : R) → result ≡ (if nat_lt station (length stations.old) then answered (answer (slice_index_or stations.old station d)) (waits carrier.old number station) else None) }
-    ensures taken { waits carrier.new ≡ (if nat_lt station (length stations.old) then without number station (waits carrier.old) else waits carrier.old) }
-    ensures turned { (d : R) → stations.new ≡ turned_at stations.old station (turned (slice_index_or stations.old station d)) (waits carrier.old number station) }
-    ensures same { room carrier.new ≡ room carrier.old }
+    ensures value { (d : R) → result ≡ (if nat_lt station (length stations.old) then answered (R.answer (slice_index_or stations.old station d)) (C.waits carrier.old number station) else None) }
+    ensures taken { C.waits carrier.new ≡ (if nat_lt station (length stations.old) then without number station (C.waits carrier.old) else C.waits carrier.old) }
+    ensures turned { (d : R) → stations.new ≡ turned_at stations.old station (R.turned (slice_index_or stations.old station d)) (C.waits carrier.old number station) }
+    ensures same { C.room carrier.new ≡ C.room carrier.old }
 {
     if station as usize >= stations.len() {
         return None;

@@ -1,5 +1,5 @@
 // The interface of every carrier: which copies wait in it, and what fits beside them.
-ghost use Rattle.std.specs.Prelude.{◌≡◌, Bool, [], ◌∷◌};
+ghost use Rattle.std.specs.Prelude.{◌≡◌, ◌↔◌, IsTrue, [], ◌∷◌};
 ghost use Rattle.carrier.specs.Counts.{earliest};
 ghost use Rattle.carrier.specs.Laws.{Laws, Room};
 ghost use Rattle.carrier.specs.Waits.{Waits, nothing, without, except, found, fitted, after_post};
@@ -17,14 +17,14 @@ pub trait Carrier<B: Copy> {
     ghost room: { Self → Room B };
 
     // Whether enough memory was lent for what a single step posts.
-    ghost ample: { Self → Bool };
+    ghost ample: { Self → Type 0 };
 
     // What the room rule keeps to.
     ghost laws: { Laws waits room ample };
 
     // Whether enough memory was lent for what a single step posts; without it a run is not to be started.
     fn is_ample(&self) -> bool
-        ensures { result ≡ ample self.now };
+        ensures { IsTrue result ↔ ample self.now };
 
     // What the copy holds, where it waits.
     fn look(&self, number: u32, station: u8) -> Option<Held<B>>

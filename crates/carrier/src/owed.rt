@@ -53,9 +53,9 @@ pub fn take_owed<B: Copy, C: Carrier<B>>(
     number: u32,
     station: u8,
 ) -> Result<Owed<B>, CarrierFault>
-    ensures value { result ≡ owing station (waits carrier.old number station) }
-    ensures after { waits carrier.new ≡ without number station (waits carrier.old) }
-    ensures same { room carrier.new ≡ room carrier.old }
+    ensures value { result ≡ owing station (C.waits carrier.old number station) }
+    ensures after { C.waits carrier.new ≡ without number station (C.waits carrier.old) }
+    ensures same { C.room carrier.new ≡ C.room carrier.old }
 {
     match carrier.take(&Key { made: true }, number, station) {
         Ok(held) => Ok(Owed { station, held }),
@@ -66,8 +66,8 @@ pub fn take_owed<B: Copy, C: Carrier<B>>(
 impl<B: Copy> Owed<B> {
     // Applies the copy to its station, or gives the debt back where there is no such station.
     pub fn apply<R: Receiver<B>>(self, stations: &mut [R]) -> Result<R::Answer, Owed<B>>
-        ensures value { (d : R) → result ≡ (if nat_lt self.station (length stations.old) then Ok (answer (slice_index_or stations.old self.station d) self.held) else Err self) }
-        ensures after { (d : R) → stations.new ≡ slice_set stations.old self.station (turned (slice_index_or stations.old self.station d) self.held) }
+        ensures value { (d : R) → result ≡ (if nat_lt self.station (length stations.old) then Ok (R.answer (slice_index_or stations.old self.station d) self.held) else Err self) }
+        ensures after { (d : R) → stations.new ≡ slice_set stations.old self.station (R.turned (slice_index_or stations.old self.station d) self.held) }
     {
         let Owed { station, held } = self;
         let at = station as usize;

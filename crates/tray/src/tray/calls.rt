@@ -1,6 +1,5 @@
 // What can be asked of a tray, and done with it.
-ghost use Rattle.std.specs.Prelude.{◌≡◌, ◌+◌, true, [], ◌∷◌, length, nat_le, refl};
-ghost use Rattle.std.proofs.lemmas.Bool.{leb-true};
+ghost use Rattle.std.specs.Prelude.{◌≡◌, ◌+◌, true, [], ◌∷◌, length, ◌≤◌, refl};
 ghost use Rattle.carrier.specs.Counts.{copies, by_copy, fits};
 ghost use Rattle.carrier.specs.Memory.{sized};
 ghost use Rattle.carrier.specs.Waits.{nothing, posted};
@@ -52,9 +51,9 @@ impl<'a, B: Copy> Carrier<B> for Tray<'a, B> {
 
     ghost room = { λ t. fits by_copy (capacity t.rack) };
 
-    ghost ample = { λ t. nat_le 257 (capacity t.rack) };
+    ghost ample = { λ t. 257 ≤ capacity t.rack };
 
-    ghost laws = { record { starts = λ t ps h. room_starts by_copy copy_cost (capacity t.rack) (leb-true 257 (capacity t.rack) h) ps; shrinks = λ t. room_shrinks by_copy copy_cost (capacity t.rack); splits = λ t. room_splits by_copy copy_cost (capacity t.rack); own_numbers = λ t. room_fresh by_copy (capacity t.rack); unheard = λ t. room_unheard by_copy refl (capacity t.rack); idle = λ t. room_idle by_copy (capacity t.rack) (stored t.rack) (stored_bound t.rack (record { within = t.within; order = t.order; count = t.count; front = t.front; ticks = t.ticks })) } };
+    ghost laws = { record { starts = λ t ps h. room_starts by_copy copy_cost (capacity t.rack) h ps; shrinks = λ t. room_shrinks by_copy copy_cost (capacity t.rack); splits = λ t. room_splits by_copy copy_cost (capacity t.rack); own_numbers = λ t. room_fresh by_copy (capacity t.rack); unheard = λ t. room_unheard by_copy refl (capacity t.rack); idle = λ t. room_idle by_copy (capacity t.rack) (stored t.rack) (stored_bound t.rack (record { within = t.within; order = t.order; count = t.count; front = t.front; ticks = t.ticks })) } };
 
     fn is_ample(&self) -> bool {
         LEAST <= self.rack.capacity()
