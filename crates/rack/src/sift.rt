@@ -28,7 +28,7 @@ impl<V: Copy> Trim<V> for KeepAll {
 
 // What the rule leaves of a record.
 fn rest<V: Copy, T: Trim<V>>(entry: Entry<V>, rule: &T) -> Option<Entry<V>>
-    ensures { result ≡ rest_of (trimmed rule.now) entry }
+    ensures { result ≡ rest_of (T.trimmed rule.now) entry }
 {
     let Entry { key, live, held } = entry;
     if !live {
@@ -49,7 +49,7 @@ fn rest<V: Copy, T: Trim<V>>(entry: Entry<V>, rule: &T) -> Option<Entry<V>>
 // Keeps what the rule leaves of the first records, and answers how many there are.
 pub(crate) fn sift_in<V: Copy, T: Trim<V>>(records: &mut [Entry<V>], len: usize, rule: &T) -> usize
     requires { len ≤ length records.old }
-    ensures kept { take result records.new ≡ sifted (trimmed rule.now) (take len records.old) }
+    ensures kept { take result records.new ≡ sifted (T.trimmed rule.now) (take len records.old) }
     ensures within { result ≤ len }
 {
     let mut count = 0;

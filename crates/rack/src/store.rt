@@ -144,7 +144,7 @@ impl<'a, V: Copy> Store<'a, V> {
         requires { Sound self.old }
         ensures sound { Sound self.new }
         ensures same { size self.new ≡ size self.old }
-        ensures after { kept self.new ≡ sifted (trimmed rule.now) (kept self.old) }
+        ensures after { kept self.new ≡ sifted (T.trimmed rule.now) (kept self.old) }
         ensures dense { self.new.live ≡ self.new.len }
     {
         let len = self.len;

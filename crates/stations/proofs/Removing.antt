@@ -31,6 +31,7 @@ unfolding removed
 removed_past s p h = same_words (removed s p) s (kept ∙ four_words s.words s.whole) where
   at : (j : ℕ) → j < 4 → word_without s p j ≡ get_or s.words j 0
   at j l = cond-false _ _ _ (ne_eqb j (p / 64) (λ e. omega arith))
+
   kept : (removed s p).words ≡ get_or s.words 0 0 ∷ get_or s.words 1 0 ∷ get_or s.words 2 0 ∷ get_or s.words 3 0 ∷ []
   kept =
       let a = at 0 (omega arith) in

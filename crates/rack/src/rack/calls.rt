@@ -95,7 +95,7 @@ impl<'a, V: Copy> Rack<'a, V> {
     pub fn sift<T: Trim<V>>(&mut self, rule: &T)
         requires { Sound self.old.store }
         ensures sound { Sound self.new.store }
-        ensures after { stored self.new ≡ (λ n q. trimmed_held (trimmed rule.now) q (stored self.old n q)) }
+        ensures after { stored self.new ≡ (λ n q. trimmed_held (T.trimmed rule.now) q (stored self.old n q)) }
         ensures same { capacity self.new ≡ capacity self.old }
     {
         self.store.sift(rule);

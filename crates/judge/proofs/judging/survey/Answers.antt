@@ -15,16 +15,16 @@ use Rattle.judge.proofs.judging.survey.Goals.{In-Some}
 moved : (c : In-Some) → Moved c.loop-placed.reader.stage c.loop-placed.reader.at c.loop-placed.reader.file.now (shown_placed c.in-Some.placed) c.next.new.self.stage c.next.new.self.at
 moved c =
     next_item _ _ _ _ _ _
-    (sym (ap (λ (o : Option Placed). answered (Ok o)) c.in-Some.is) ∙ c.in-ok-placed.ensures.answer)
+    (sym (ap (λ (o : Option Placed). answered (Ok o)) c.in-Some.is) ∙ c.in_ok-placed.ensures.answer)
     c.next.ensures.stage c.next.ensures.place
 
-pub returns-in-err-placed : goal.returns-in-err-placed
-returns-in-err-placed c =
+pub returns-in_err-placed : goal.returns-in_err-placed
+returns-in_err-placed c =
     let p = err_from_is_err_and c.from-residual.result c.from-residual.ensures.1 in
     let r = c.loop-placed.reader in
     rw (p.1, p.2)
     (sym (c.loop-placed.invariant.0
-    ∙ said_fault c.loop-placed.contents (to_come r) _ (next_fault r.stage r.at r.file.now c.in-err-placed.field-0.0 c.in-err-placed.ensures.answer)))
+    ∙ said_fault c.loop-placed.contents (to_come r) _ (next_fault r.stage r.at r.file.now c.in_err-placed.field-0.0 c.in_err-placed.ensures.answer)))
 
 pub loop-placed-smaller : goal.loop-placed-smaller
 loop-placed-smaller c =
@@ -49,5 +49,5 @@ loop-placed-preserved c =
 pub returns : goal.returns
 returns c =
     let r = c.loop-placed.reader in
-    let e = sym (ap (λ (o : Option Placed). answered (Ok o)) c.in-default.is) ∙ c.in-ok-placed.ensures.answer in
+    let e = sym (ap (λ (o : Option Placed). answered (Ok o)) c.in_default.is) ∙ c.in_ok-placed.ensures.answer in
     sym (c.loop-placed.invariant.0 ∙ ap (said_of c.loop-placed.contents) (next_end r.stage r.at r.file.now e))

@@ -2,7 +2,7 @@ use Rattle.std.proofs.Common.{◌≡◌, ℕ, ◌+◌, ◌<◌, ◌≤◌, lengt
 use Rattle.rack.specs.Entries.{sifted}
 use Rattle.rack.proofs.Sifting.{Sifting, sifted_drops, sifted_keeps, sifting_drops, sifting_keeps}
 use Rattle.rack.proofs.sift.sift_in.Goals as goal
-use Rattle.rack.proofs.sift.sift_in.Goals.{in-Some, in-default}
+use Rattle.rack.proofs.sift.sift_in.Goals.{in-Some, in_default}
 
 pub offset_bounds-records-i : goal.offset_bounds-records-i
 offset_bounds-records-i g c = let h : c.loop-i.i < length c.args.records.now = omega arith in search rules
@@ -27,8 +27,8 @@ loop-i-preserved g c =
           let z = w.in-Some.left in
           let left = sifting_keeps f xs ys k i c.loop-i.invariant x within c.index-records-i.is z (sifted_keeps f x z (sym c.rest.ensures ∙ w.in-Some.is)) in
           subst (λ zs. Sifting f xs zs c.match-rest.count (i + 1)) (sym w.records-is) (subst (λ (n : ℕ). Sifting f xs (set ys k z) n (i + 1)) (sym w.count-is) left)
-      | in-default w ↦
-          let left = sifting_drops f xs ys k i c.loop-i.invariant x within c.index-records-i.is (sifted_drops f x (sym c.rest.ensures ∙ w.in-default.is)) in
+      | in_default w ↦
+          let left = sifting_drops f xs ys k i c.loop-i.invariant x within c.index-records-i.is (sifted_drops f x (sym c.rest.ensures ∙ w.in_default.is)) in
           subst (λ zs. Sifting f xs zs c.match-rest.count (i + 1)) (sym w.records-is) (subst (λ (n : ℕ). Sifting f xs ys n (i + 1)) (sym w.count-is) left)
     ]
 

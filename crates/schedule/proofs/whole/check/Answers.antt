@@ -12,14 +12,14 @@ use Rattle.schedule.proofs.whole.check.Goals.{In-Some}
 moved : (c : In-Some) → Moved c.loop.reader.stage c.loop.reader.at c.loop.reader.file.now (shown_placed c.in-Some.field-0) c.next.new.self.stage c.next.new.self.at
 moved c =
     next_item _ _ _ _ _ _
-    (sym (ap (λ (o : Option Placed). answered (Ok o)) c.in-Some.is) ∙ c.in-ok-next.ensures.answer)
+    (sym (ap (λ (o : Option Placed). answered (Ok o)) c.in-Some.is) ∙ c.in_ok-next.ensures.answer)
     c.next.ensures.stage c.next.ensures.place
 
-pub returns-in-err-next : goal.returns-in-err-next
-returns-in-err-next c =
+pub returns-in_err-next : goal.returns-in_err-next
+returns-in_err-next c =
     let p = err_from_is_err_and c.from-residual.result c.from-residual.ensures.1 in
     rw (p.1, p.2)
-    (sym (c.loop.invariant.0 ∙ next_fault c.loop.reader.stage c.loop.reader.at c.loop.reader.file.now c.in-err-next.field-0.0 c.in-err-next.ensures.answer))
+    (sym (c.loop.invariant.0 ∙ next_fault c.loop.reader.stage c.loop.reader.at c.loop.reader.file.now c.in_err-next.field-0.0 c.in_err-next.ensures.answer))
 
 pub loop-smaller : goal.loop-smaller
 loop-smaller c =
@@ -37,5 +37,5 @@ loop-preserved c =
 
 pub returns : goal.returns
 returns c =
-    let e = sym (ap (λ (o : Option Placed). answered (Ok o)) c.in-default.is) ∙ c.in-ok-next.ensures.answer in
+    let e = sym (ap (λ (o : Option Placed). answered (Ok o)) c.in_default.is) ∙ c.in_ok-next.ensures.answer in
     sym (c.loop.invariant.0 ∙ ap verdict (next_end c.loop.reader.stage c.loop.reader.at c.loop.reader.file.now e))

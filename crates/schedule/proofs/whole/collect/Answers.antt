@@ -13,15 +13,15 @@ use Rattle.schedule.proofs.whole.collect.Goals.{In-Some}
 moved : (c : In-Some) → Moved c.loop-records.reader.stage c.loop-records.reader.at c.loop-records.reader.file.now (shown_placed c.in-Some.placed) c.next.new.self.stage c.next.new.self.at
 moved c =
     next_item _ _ _ _ _ _
-    (sym (ap (λ (o : Option Placed). answered (Ok o)) c.in-Some.is) ∙ c.in-ok-placed.ensures.answer)
+    (sym (ap (λ (o : Option Placed). answered (Ok o)) c.in-Some.is) ∙ c.in_ok-placed.ensures.answer)
     c.next.ensures.stage c.next.ensures.place
 
-pub returns-in-err-placed : goal.returns-in-err-placed
-returns-in-err-placed c =
+pub returns-in_err-placed : goal.returns-in_err-placed
+returns-in_err-placed c =
     let p = err_from_is_err_and c.from-residual.result c.from-residual.ensures.1 in
     rw (p.1, p.2)
     (ap verdict c.loop-records.invariant.0 ∙ verdict_prefixed (map shown_placed (vec_items c.loop-records.records)) (to_come c.loop-records.reader)
-    ∙ next_fault c.loop-records.reader.stage c.loop-records.reader.at c.loop-records.reader.file.now c.in-err-placed.field-0.0 c.in-err-placed.ensures.answer)
+    ∙ next_fault c.loop-records.reader.stage c.loop-records.reader.at c.loop-records.reader.file.now c.in_err-placed.field-0.0 c.in_err-placed.ensures.answer)
 
 pub loop-records-smaller : goal.loop-records-smaller
 loop-records-smaller c =
@@ -34,7 +34,7 @@ loop-records-preserved c =
     let n = c.next.new.self in
     let xs : List PlacedItem = map shown_placed (vec_items c.loop-records.records) in
     let more : xs ++ shown_placed c.in-Some.placed ∷ [] ≡ map shown_placed (vec_items c.push.new.self) =
-    sym (ap (map shown_placed) c.in-ok-push.ensures.items ∙ map-append shown_placed (vec_items c.loop-records.records) (c.in-Some.placed ∷ [])) in (
+    sym (ap (map shown_placed) c.in_ok-push.ensures.items ∙ map-append shown_placed (vec_items c.loop-records.records) (c.in-Some.placed ∷ [])) in (
       c.loop-records.invariant.0 ∙ ap (prefixed xs) m.read
           ∙ ap (λ (f : List ℕ). prefixed xs (ahead (shown_placed c.in-Some.placed) (reading n.stage n.at (drop n.at f)))) (sym c.next.ensures.file)
           ∙ prefixed_more xs (shown_placed c.in-Some.placed) (to_come n)
@@ -42,15 +42,15 @@ loop-records-preserved c =
       c.next.ensures.file ∙ c.loop-records.invariant.1,
     )
 
-pub returns-in-err-push : goal.returns-in-err-push
-returns-in-err-push c =
-    let p = err_from_is_err_and c.from-residual-in-err-push.result c.from-residual-in-err-push.ensures.1 in
+pub returns-in_err-push : goal.returns-in_err-push
+returns-in_err-push c =
+    let p = err_from_is_err_and c.from-residual-in_err-push.result c.from-residual-in_err-push.ensures.1 in
     rw (p.1, p.2) (verdict_ok _ c.requires)
 
 pub returns : goal.returns
 returns c =
     let xs : List PlacedItem = map shown_placed (vec_items c.loop-records.records) in
-    let e = sym (ap (λ (o : Option Placed). answered (Ok o)) c.in-default.is) ∙ c.in-ok-placed.ensures.answer in
+    let e = sym (ap (λ (o : Option Placed). answered (Ok o)) c.in_default.is) ∙ c.in_ok-placed.ensures.answer in
     c.loop-records.invariant.0
     ∙ ap (prefixed xs) (next_end c.loop-records.reader.stage c.loop-records.reader.at c.loop-records.reader.file.now e)
     ∙ prefixed_all xs

@@ -39,8 +39,8 @@ returns-in-Steps c =
     (true-leb _ _ c.if-not-fit_in_file.ensures) c.loop-item.invariant c.loop-item-test.false in
     search rules
 
-pub returns-in-default : goal.returns-in-default
-returns-in-default c =
+pub returns-in_default : goal.returns-in_default
+returns-in_default c =
     let e = come_to_end c.args.records.now c.loop-item.item-index c.loop-item.stage c.loop-item.at
     (true-leb _ _ c.if-not-fit_in_file.ensures) c.loop-item.invariant c.loop-item-test.false in
     search rules

@@ -10,11 +10,11 @@ use Rattle.schedule.proofs.Remaining.{all_bytes}
 use Rattle.schedule.proofs.RoundTrips.{written_is_read, read_is_written}
 use Rattle.schedule.proofs.writer.write.Goals as goal
 
-pub returns-in-err-len : goal.returns-in-err-len
-returns-in-err-len c =
+pub returns-in_err-len : goal.returns-in_err-len
+returns-in_err-len c =
     let p = err_from_is_err_and c.from-residual.result c.from-residual.ensures.1 in
     let bs : List ℕ = all_bytes c.args.records.now in
-    let w = write_refused (length c.args.buffer.now) (length bs) bs c.args.buffer.now (read_of bs) (told c.in-err-len.field-0.0) c.in-err-len.ensures in
+    let w = write_refused (length c.args.buffer.now) (length bs) bs c.args.buffer.now (read_of bs) (told c.in_err-len.field-0.0) c.in_err-len.ensures in
     record {
       value = ap wrote p.1 ∙ ap (λ (f : WriteFault). Err (told_write f)) p.2 ∙ w.0;
       after = w.1;
@@ -26,7 +26,7 @@ pub returns-then-buffer-lt-MOST_BYTES : goal.returns-then-buffer-lt-MOST_BYTES
 returns-then-buffer-lt-MOST_BYTES c =
     let bs : List ℕ = all_bytes c.args.records.now in
     let buffer = c.args.buffer.now in
-    let a = write_accepted (length buffer) (length bs) c.in-ok-len.len bs (read_of bs) c.in-ok-len.ensures in
+    let a = write_accepted (length buffer) (length bs) c.in_ok-len.len bs (read_of bs) c.in_ok-len.ensures in
     let t = a.0 ∙ room_short (length buffer) bs (omega arith) in
     record {
       value = ap (λ (f : WriteFault). Err (told_write f)) c.into.ensures ∙ sym (ap how_long t);
@@ -37,14 +37,14 @@ returns-then-buffer-lt-MOST_BYTES c =
 
 pub put_records-requires : goal.put_records-requires
 put_records-requires c =
-    let n = length_read (all_bytes c.args.records.now) _ c.in-ok-len.ensures in
+    let n = length_read (all_bytes c.args.records.now) _ c.in_ok-len.ensures in
     record { fits = omega arith; short = n }
 
 pub returns : goal.returns
 returns c =
     let bs : List ℕ = all_bytes c.args.records.now in
     let buffer = c.args.buffer.now in
-    let a = write_accepted (length buffer) (length bs) c.in-ok-len.len bs (read_of bs) c.in-ok-len.ensures in
+    let a = write_accepted (length buffer) (length bs) c.in_ok-len.len bs (read_of bs) c.in_ok-len.ensures in
     let t = a.0 ∙ room_enough (length buffer) bs (omega arith) in
     record {
       value = ap (λ (n : ℕ). Ok n) a.1 ∙ sym (ap how_long t);

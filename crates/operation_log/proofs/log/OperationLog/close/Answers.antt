@@ -21,8 +21,8 @@ returns-else-not-can_count g c =
       memory = some_memory l p f e some low _ c.close.ensures n put.written put.opened put.latest put.named;
     }
 
-pub returns-in-default : goal.returns-in-default
-returns-in-default g c =
+pub returns-in_default : goal.returns-in_default
+returns-in_default g c =
     let l = c.args.self.now in
-    let none = c.in-default.ensures in
+    let none = c.in_default.ensures in
     record { value = none_value l c.args.p (close c.args.kept c.args.clock) none; after = none_after l c.args.p (close c.args.kept c.args.clock) none; memory = same_memory l }

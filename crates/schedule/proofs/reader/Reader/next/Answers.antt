@@ -10,8 +10,8 @@ returns-in-Steps c =
     let e = turn_past_end r.stage r.at r.file.now (omega arith) in
     search rules
 
-pub returns-in-default : goal.returns-in-default
-returns-in-default c =
+pub returns-in_default : goal.returns-in_default
+returns-in_default c =
     let r = c.args.self.now in
     let e = turn_past_end r.stage r.at r.file.now (omega arith) in
     search rules

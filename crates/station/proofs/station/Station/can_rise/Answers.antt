@@ -18,6 +18,6 @@ pub returns-in-Ack : goal.returns-in-Ack
 unfolding can_rise
 returns-in-Ack g c = search rules
 
-pub returns-in-default : goal.returns-in-default
+pub returns-in_default : goal.returns-in_default
 unfolding can_rise
-returns-in-default g c = search rules
+returns-in_default g c = search rules

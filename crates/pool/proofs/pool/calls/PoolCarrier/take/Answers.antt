@@ -9,11 +9,11 @@ use Rattle.pool.specs.Meaning.{pooled}
 use Rattle.pool.proofs.Messages.{lesser_wanted, changed_whole, changed_wanted, pooled_taken}
 use Rattle.pool.proofs.pool.calls.PoolCarrier.take.Goals as goal
 
-pub returns-in-default : goal.returns-in-default
+pub returns-in_default : goal.returns-in_default
 unfolding pooled
-returns-in-default g c =
+returns-in_default g c =
     let r = c.args.self.now.rack in
-    let gone = ap (λ o. opened o c.args.station) (sym c.get-message.ensures) ∙ sym c.open.ensures ∙ c.in-default.is in
+    let gone = ap (λ o. opened o c.args.station) (sym c.get-message.ensures) ∙ sym c.open.ensures ∙ c.in_default.is in
     record { value = sym (ap found gone); after = at_same (pooled r) c.args.number c.args.station None gone; same = refl }
 
 pub invariant_of-self : goal.invariant_of-self

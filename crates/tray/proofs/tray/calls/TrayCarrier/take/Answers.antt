@@ -4,8 +4,8 @@ use Rattle.carrier.proofs.Copies.{at_same}
 use Rattle.rack.specs.Racks.{stored}
 use Rattle.tray.proofs.tray.calls.TrayCarrier.take.Goals as goal
 
-pub returns-in-default : goal.returns-in-default
-returns-in-default g c =
+pub returns-in_default : goal.returns-in_default
+returns-in_default g c =
     let w = stored c.args.self.now.rack in
-    let gone = sym c.get.ensures ∙ c.in-default.is in
+    let gone = sym c.get.ensures ∙ c.in_default.is in
     record { value = sym (ap found gone); after = at_same w c.args.number c.args.station None gone; same = refl }
