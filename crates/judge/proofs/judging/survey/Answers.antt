@@ -20,7 +20,7 @@ moved c =
 
 pub returns-in_err-placed : goal.returns-in_err-placed
 returns-in_err-placed c =
-    let p = err_from_is_err_and c.from-residual.result c.from-residual.ensures.1 in
+    let p = err_from_is_err_and c.from_residual.result c.from_residual.ensures.1 in
     let r = c.loop-placed.reader in
     rw (p.1, p.2)
     (sym (c.loop-placed.invariant.0

@@ -17,7 +17,7 @@ moved c =
 
 pub returns-in_err-next : goal.returns-in_err-next
 returns-in_err-next c =
-    let p = err_from_is_err_and c.from-residual.result c.from-residual.ensures.1 in
+    let p = err_from_is_err_and c.from_residual.result c.from_residual.ensures.1 in
     rw (p.1, p.2)
     (sym (c.loop.invariant.0 ∙ next_fault c.loop.reader.stage c.loop.reader.at c.loop.reader.file.now c.in_err-next.field-0.0 c.in_err-next.ensures.answer))
 

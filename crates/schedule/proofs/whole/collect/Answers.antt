@@ -18,7 +18,7 @@ moved c =
 
 pub returns-in_err-placed : goal.returns-in_err-placed
 returns-in_err-placed c =
-    let p = err_from_is_err_and c.from-residual.result c.from-residual.ensures.1 in
+    let p = err_from_is_err_and c.from_residual.result c.from_residual.ensures.1 in
     rw (p.1, p.2)
     (ap verdict c.loop-records.invariant.0 ∙ verdict_prefixed (map shown_placed (vec_items c.loop-records.records)) (to_come c.loop-records.reader)
     ∙ next_fault c.loop-records.reader.stage c.loop-records.reader.at c.loop-records.reader.file.now c.in_err-placed.field-0.0 c.in_err-placed.ensures.answer)
@@ -44,7 +44,7 @@ loop-records-preserved c =
 
 pub returns-in_err-push : goal.returns-in_err-push
 returns-in_err-push c =
-    let p = err_from_is_err_and c.from-residual-in_err-push.result c.from-residual-in_err-push.ensures.1 in
+    let p = err_from_is_err_and c.from_residual-in_err-push.result c.from_residual-in_err-push.ensures.1 in
     rw (p.1, p.2) (verdict_ok _ c.requires)
 
 pub returns : goal.returns

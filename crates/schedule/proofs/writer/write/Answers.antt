@@ -12,7 +12,7 @@ use Rattle.schedule.proofs.writer.write.Goals as goal
 
 pub returns-in_err-len : goal.returns-in_err-len
 returns-in_err-len c =
-    let p = err_from_is_err_and c.from-residual.result c.from-residual.ensures.1 in
+    let p = err_from_is_err_and c.from_residual.result c.from_residual.ensures.1 in
     let bs : List ℕ = all_bytes c.args.records.now in
     let w = write_refused (length c.args.buffer.now) (length bs) bs c.args.buffer.now (read_of bs) (told c.in_err-len.field-0.0) c.in_err-len.ensures in
     record {
