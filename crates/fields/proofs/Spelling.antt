@@ -3,7 +3,7 @@ use Rattle.std.proofs.Common.{◌≡◌, ℕ, ◌+◌, ◌*◌, ◌/◌, ◌%◌
 use native.Mathlib.Nat.{div-div-eq-div-mul}
 use mir.Facts.{Fits-of_z, of_z-to_z}
 use Rattle.std.proofs.lemmas.List.{drop_all, get_or-drop}
-use Rattle.std.specs.List.{AllByRecursion as All}
+use Rattle.std.specs.List.{AllByRecursion}
 use Rattle.fields.specs.Numbers.{two, four, signed_four, le2, le4, signed_le4}
 
 pub length_le2 : (x : ℕ) → length (le2 x) ≡ 2
@@ -18,13 +18,13 @@ length_signed_le4 z = refl
 byte : (x : ℕ) → x % 256 < 256
 byte x = omega arith
 
-pub all_le2 : (x : ℕ) → All (λ b. b < 256) (le2 x)
+pub all_le2 : (x : ℕ) → AllByRecursion (λ b. b < 256) (le2 x)
 all_le2 x = (byte x, (byte (x / 256), tt))
 
-pub all_le4 : (x : ℕ) → All (λ b. b < 256) (le4 x)
+pub all_le4 : (x : ℕ) → AllByRecursion (λ b. b < 256) (le4 x)
 all_le4 x = (byte x, (byte (x / 256), (byte (x / 65536), (byte (x / 16777216), tt))))
 
-pub all_signed_le4 : (z : ℤ) → All (λ b. b < 256) (signed_le4 z)
+pub all_signed_le4 : (z : ℤ) → AllByRecursion (λ b. b < 256) (signed_le4 z)
 all_signed_le4 z = all_le4 (of_z w32 z)
 
 -- what was spelled is read back, whatever follows it
@@ -71,12 +71,12 @@ le4_four a b c d ha hb hc hd =
     cc
 
 -- the number in front is below its limit, however many bytes there are
-pub two_below : (bs : List ℕ) → All (λ b. b < 256) bs → two bs 0 < 65536
+pub two_below : (bs : List ℕ) → AllByRecursion (λ b. b < 256) bs → two bs 0 < 65536
 two_below [] k = omega arith
 two_below (a ∷ []) k = omega (arith, k.0)
 two_below (a ∷ b ∷ r) k = omega (arith, k.0, k.1.0)
 
-pub four_below : (bs : List ℕ) → All (λ b. b < 256) bs → four bs 0 < 2 ^ 32
+pub four_below : (bs : List ℕ) → AllByRecursion (λ b. b < 256) bs → four bs 0 < 2 ^ 32
 four_below [] k = omega arith
 four_below (a ∷ []) k = omega (arith, k.0)
 four_below (a ∷ b ∷ []) k = omega (arith, k.0, k.1.0)
@@ -84,19 +84,19 @@ four_below (a ∷ b ∷ c ∷ []) k = omega (arith, k.0, k.1.0, k.1.1.0)
 four_below (a ∷ b ∷ c ∷ d ∷ r) k = omega (arith, k.0, k.1.0, k.1.1.0, k.1.1.1.0)
 
 -- bytes are the spelling of the number in front, and what follows it
-pub two_front : (bs : List ℕ) → All (λ b. b < 256) bs → 2 ≤ length bs → bs ≡ le2 (two bs 0) ++ drop 2 bs
+pub two_front : (bs : List ℕ) → AllByRecursion (λ b. b < 256) bs → 2 ≤ length bs → bs ≡ le2 (two bs 0) ++ drop 2 bs
 two_front [] k h = grind arith
 two_front (a ∷ []) k h = grind arith
 two_front (a ∷ b ∷ r) k h = ap (λ (x : List ℕ). x ++ r) (sym (le2_two a b k.0 k.1.0))
 
-pub four_front : (bs : List ℕ) → All (λ b. b < 256) bs → 4 ≤ length bs → bs ≡ le4 (four bs 0) ++ drop 4 bs
+pub four_front : (bs : List ℕ) → AllByRecursion (λ b. b < 256) bs → 4 ≤ length bs → bs ≡ le4 (four bs 0) ++ drop 4 bs
 four_front [] k h = grind arith
 four_front (a ∷ []) k h = grind arith
 four_front (a ∷ b ∷ []) k h = grind arith
 four_front (a ∷ b ∷ c ∷ []) k h = grind arith
 four_front (a ∷ b ∷ c ∷ d ∷ r) k h = ap (λ (x : List ℕ). x ++ r) (sym (le4_four a b c d k.0 k.1.0 k.1.1.0 k.1.1.1.0))
 
-pub signed_front : (bs : List ℕ) → All (λ b. b < 256) bs → 4 ≤ length bs → bs ≡ signed_le4 (signed_four bs 0) ++ drop 4 bs
+pub signed_front : (bs : List ℕ) → AllByRecursion (λ b. b < 256) bs → 4 ≤ length bs → bs ≡ signed_le4 (signed_four bs 0) ++ drop 4 bs
 signed_front bs k h =
     four_front bs k h ∙ ap (λ (x : ℕ). le4 x ++ drop 4 bs) (sym (of_z-to_z {w = w32} (record { fits = four_below bs k })))
 
@@ -111,11 +111,11 @@ pub signed_drop : (n : ℕ) (bs : List ℕ) → signed_four (drop n bs) 0 ≡ si
 signed_drop n bs = ap (to_z w32) (four_drop n bs)
 
 -- bytes that are one number are its spelling
-pub two_only : (bs : List ℕ) → All (λ b. b < 256) bs → length bs ≡ 2 → bs ≡ le2 (two bs 0)
+pub two_only : (bs : List ℕ) → AllByRecursion (λ b. b < 256) bs → length bs ≡ 2 → bs ≡ le2 (two bs 0)
 two_only bs k h = two_front bs k (omega arith) ∙ ap (λ (r : List ℕ). le2 (two bs 0) ++ r) (drop_all 2 bs (omega arith))
 
-pub four_only : (bs : List ℕ) → All (λ b. b < 256) bs → length bs ≡ 4 → bs ≡ le4 (four bs 0)
+pub four_only : (bs : List ℕ) → AllByRecursion (λ b. b < 256) bs → length bs ≡ 4 → bs ≡ le4 (four bs 0)
 four_only bs k h = four_front bs k (omega arith) ∙ ap (λ (r : List ℕ). le4 (four bs 0) ++ r) (drop_all 4 bs (omega arith))
 
-pub signed_only : (bs : List ℕ) → All (λ b. b < 256) bs → length bs ≡ 4 → bs ≡ signed_le4 (signed_four bs 0)
+pub signed_only : (bs : List ℕ) → AllByRecursion (λ b. b < 256) bs → length bs ≡ 4 → bs ≡ signed_le4 (signed_four bs 0)
 signed_only bs k h = signed_front bs k (omega arith) ∙ ap (λ (r : List ℕ). signed_le4 (signed_four bs 0) ++ r) (drop_all 4 bs (omega arith))

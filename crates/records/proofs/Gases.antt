@@ -2,7 +2,7 @@
 use Rattle.std.proofs.Common.{◌≡◌, ℕ, ◌<◌, ◌≤◌, List, [], ◌++◌, length, drop, ℤ, Some, refl, ap, ◌∙◌, ap₂, arith, length-drop}
 use Rattle.std.proofs.ByRecursion.{All-drop}
 use Rattle.std.proofs.lemmas.List.{drop_all, get_or-drop}
-use Rattle.std.specs.List.{AllByRecursion as All}
+use Rattle.std.specs.List.{AllByRecursion}
 use Rattle.fields.specs.Numbers.{two, four, signed_four, le2, le4, signed_le4}
 use Rattle.fields.proofs.Spelling.{four_le4, signed_back, two_front, signed_front, four_only, signed_only, four_drop, signed_drop}
 use Rattle.records.specs.declared.gas.Gas.TheVariants.{NoCell, Zero, ZeroSpan}
@@ -14,11 +14,11 @@ reads_back (Zero z) h = ap (λ (y : ℤ). Some (Zero y)) (signed_back z h)
 reads_back (ZeroSpan z s) h = ap₂ (λ (y : ℤ) (t : ℕ). Some (ZeroSpan y t)) (signed_back z h.0) (four_le4 s h.1)
 
 -- bytes after a form
-formed : (bs more : List ℕ) (f : ℕ) → All (λ b. b < 256) bs → 2 ≤ length bs → two bs 0 ≡ f → drop 2 bs ≡ more → bs ≡ le2 f ++ more
+formed : (bs more : List ℕ) (f : ℕ) → AllByRecursion (λ b. b < 256) bs → 2 ≤ length bs → two bs 0 ≡ f → drop 2 bs ≡ more → bs ≡ le2 f ++ more
 formed bs more f a h e d = two_front bs a h ∙ ap₂ (λ (x : ℕ) (xs : List ℕ). le2 x ++ xs) e d
 
 -- eight bytes are a signed number and a number
-zero_span : (bs : List ℕ) → All (λ b. b < 256) bs → length bs ≡ 8 → bs ≡ signed_le4 (signed_four bs 0) ++ le4 (four bs 4)
+zero_span : (bs : List ℕ) → AllByRecursion (λ b. b < 256) bs → length bs ≡ 8 → bs ≡ signed_le4 (signed_four bs 0) ++ le4 (four bs 4)
 zero_span bs a h =
     signed_front bs a (omega arith)
     ∙ ap (λ (xs : List ℕ). signed_le4 (signed_four bs 0) ++ xs) (four_only (drop 4 bs) (All-drop _ 4 bs a) (simp length-drop (omega arith)) ∙ ap le4 (four_drop 4 bs))

@@ -1,7 +1,7 @@
 -- Responses are read back, have one spelling, and are read where they fit.
 use Rattle.std.proofs.Common.{◌≡◌, ℕ, ◌<◌, List, ◌++◌, length, drop, Some, ap, ◌∙◌, ap₂, arith, length-drop}
 use Rattle.std.proofs.ByRecursion.{All-drop}
-use Rattle.std.specs.List.{AllByRecursion as All}
+use Rattle.std.specs.List.{AllByRecursion}
 use Rattle.fields.specs.Numbers.{four, le4}
 use Rattle.fields.proofs.Spelling.{four_le4, four_front, four_only, four_drop}
 use Rattle.records.specs.Responses.{ResponseReadsBack, ResponseOneSpelling, ResponseReadWhereItFits}
@@ -10,7 +10,7 @@ pub reads_back : ResponseReadsBack
 reads_back r g c = ap₂ (λ (x y : ℕ). Some (record { gain = x; corner = y })) (four_le4 r.gain g) (four_le4 r.corner c)
 
 -- eight bytes are two numbers
-two_fours : (bs : List ℕ) → All (λ b. b < 256) bs → length bs ≡ 8 → bs ≡ le4 (four bs 0) ++ le4 (four bs 4)
+two_fours : (bs : List ℕ) → AllByRecursion (λ b. b < 256) bs → length bs ≡ 8 → bs ≡ le4 (four bs 0) ++ le4 (four bs 4)
 two_fours bs a h =
     four_front bs a (omega arith)
     ∙ ap (λ (xs : List ℕ). le4 (four bs 0) ++ xs) (four_only (drop 4 bs) (All-drop _ 4 bs a) (simp length-drop (omega arith)) ∙ ap le4 (four_drop 4 bs))

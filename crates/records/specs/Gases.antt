@@ -2,7 +2,7 @@
 use Rattle.std.specs.Prelude.{◌≡◌, ℕ, ◌^◌, ◌<◌, Bool, true, false, cond, ◌↔◌, List, ◌++◌, length, is_some, Some, None, codes, decimal, Option, FitsSigned, ◌==◌}
 use Rattle.std.specs.Int.{w32}
 use Rattle.std.specs.Fmt.{signed_decimal}
-use Rattle.std.specs.List.{AllByRecursion as All}
+use Rattle.std.specs.List.{AllByRecursion}
 use Rattle.fields.specs.Numbers.{two, four, signed_four, le2, le4, signed_le4}
 use Rattle.records.specs.declared.class.Class.TheVariants as class
 use Rattle.records.specs.declared.class.Shape.TheVariants.{Fits}
@@ -45,7 +45,7 @@ GasReadsBack = (g : Gas) → Held g → gas_of (gas_bytes g) ≡ Some g
 
 -- bytes that are read as a gas record are its bytes
 abbrev pub GasOneSpelling : Type 0
-GasOneSpelling = (bs : List ℕ) (g : Gas) → All (λ b. b < 256) bs → gas_of bs ≡ Some g → bs ≡ gas_bytes g
+GasOneSpelling = (bs : List ℕ) (g : Gas) → AllByRecursion (λ b. b < 256) bs → gas_of bs ≡ Some g → bs ≡ gas_bytes g
 
 -- bytes are read as a gas record exactly where they fit its class
 abbrev pub GasReadWhereItFits : Type 0

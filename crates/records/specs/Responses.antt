@@ -1,6 +1,6 @@
 -- The bytes and the text of a response.
 use Rattle.std.specs.Prelude.{◌≡◌, ℕ, ◌^◌, ◌<◌, true, cond, ◌↔◌, List, ◌++◌, length, is_some, Some, None, codes, decimal, Option, ◌==◌}
-use Rattle.std.specs.List.{AllByRecursion as All}
+use Rattle.std.specs.List.{AllByRecursion}
 use Rattle.fields.specs.Numbers.{four, le4}
 use Rattle.records.specs.declared.class.Class.TheVariants as class
 use Rattle.records.specs.declared.class.Shape.TheVariants.{Fits}
@@ -25,7 +25,7 @@ ResponseReadsBack = (r : Response) → r.gain < 2 ^ 32 → r.corner < 2 ^ 32 →
 
 -- bytes that are read as a response are its bytes
 abbrev pub ResponseOneSpelling : Type 0
-ResponseOneSpelling = (bs : List ℕ) (r : Response) → All (λ b. b < 256) bs → response_of bs ≡ Some r → bs ≡ response_bytes r
+ResponseOneSpelling = (bs : List ℕ) (r : Response) → AllByRecursion (λ b. b < 256) bs → response_of bs ≡ Some r → bs ≡ response_bytes r
 
 -- bytes are read as a response exactly where they fit its class
 abbrev pub ResponseReadWhereItFits : Type 0

@@ -2,7 +2,7 @@
 use Rattle.std.proofs.Common.{◌≡◌, ℕ, ◌+◌, ◌-◌, ◌<◌, ◌≤◌, Bool, true, false, cond, ltb, List, [], ◌++◌, length, drop, Some, None, Ok, Err, Option, Result, sym, refl, ap, ◌∙◌, ap₂, arith, length-drop}
 use Rattle.std.proofs.ByRecursion.{All-drop}
 use Rattle.std.proofs.lemmas.List.{drop_all, drop-drop}
-use Rattle.std.specs.List.{AllByRecursion as All}
+use Rattle.std.specs.List.{AllByRecursion}
 use Rattle.fields.specs.Numbers.{two, four, le2, le4}
 use Rattle.fields.proofs.Spelling.{two_le2_more, four_le4_more, two_front, four_front, two_only, two_drop}
 use Rattle.records.specs.declared.class.Class.{Class}
@@ -18,7 +18,7 @@ use Rattle.schedule.specs.Writing.{Fitting}
 use Rattle.schedule.proofs.Readings.{never}
 
 abbrev pub Bytes : List ℕ → Type 0
-Bytes bs = All (λ b. b < 256) bs
+Bytes bs = AllByRecursion (λ b. b < 256) bs
 
 -- an item whose numbers fit is what its body says
 pub item_back : (i : Item) → Fitting i → item_of (kind_in i) (body_of i) ≡ i

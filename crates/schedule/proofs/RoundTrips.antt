@@ -3,7 +3,7 @@ use Rattle.std.proofs.Common.{◌≡◌, ℕ, zero, suc, ◌+◌, ◌-◌, ◌<�
 use borrow.Author.Tests.{false-ltb}
 use Rattle.std.proofs.ByRecursion.{All-take, All-drop}
 use Rattle.std.proofs.lemmas.List.{drop_all, drop-drop, take-append-drop}
-use Rattle.std.specs.List.{AllByRecursion as All}
+use Rattle.std.specs.List.{AllByRecursion}
 use Rattle.refusals.specs.declared.Refusal.{Refusal}
 use Rattle.fields.specs.Numbers.{two, le2}
 use Rattle.fields.proofs.Spelling.{two_front, two_drop}
@@ -48,7 +48,7 @@ reads_one i is s at xs f l others e (Ok k) j =
     q.2 ∙ ap₂ (λ (x : Item) (ys : List PlacedItem). record { at = at; item = x } ∷ ys) same (others (stage_after s k) (at + length (spell i)) q.0 q.1)
 
 -- what is read of spelled items are those items, each at its place
-reads_items : (items : List Item) (s : Stage) (at : ℕ) (xs : List PlacedItem) → All Fitting items → length (spelled items) ≤ most_bytes
+reads_items : (items : List Item) (s : Stage) (at : ℕ) (xs : List PlacedItem) → AllByRecursion Fitting items → length (spelled items) ≤ most_bytes
     → reading s at (spelled items) ≡ Ok xs → xs ≡ placed_from at items
 reads_items [] s at xs f l e = end_empty s at xs e
 reads_items (i ∷ is) s at xs f l e =

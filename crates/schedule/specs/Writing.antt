@@ -1,6 +1,6 @@
 -- Writing a schedule: the bytes of its items, and where a writer refuses them.
 use Rattle.std.specs.Prelude.{◌≡◌, ℕ, ◌+◌, ◌<◌, cond, List, [], ◌∷◌, ◌++◌, map, length, drop, Ok, Err, Result, nat_lt}
-use Rattle.std.specs.List.{AllByRecursion as All}
+use Rattle.std.specs.List.{AllByRecursion}
 use Rattle.refusals.specs.declared.Refusal.{Refusal}
 use Rattle.settings.specs.declared.fault.SettingsFault.TheVariants.{MemorySize}
 use Rattle.settings.specs.Faults as settings_faults
@@ -81,7 +81,7 @@ Fitting (deliver m p) = (m < 4294967296) × Short p
 -- what is written is read again: the same items, each at its place
 abbrev pub WrittenIsRead : Type 0
 WrittenIsRead =
-    (room : ℕ) (items : List Item) → All Fitting items
+    (room : ℕ) (items : List Item) → AllByRecursion Fitting items
     → (bs : List ℕ) → written room items ≡ Ok bs → read_of bs ≡ Ok (placed_from 0 items)
 
 abbrev pub items_of : List PlacedItem → List Item
@@ -90,5 +90,5 @@ items_of xs = map (λ x. x.item) xs
 -- what is read is what a writer gives of the items: a file has one spelling
 abbrev pub ReadIsWritten : Type 0
 ReadIsWritten =
-    (bs : List ℕ) → All (λ b. b < 256) bs
+    (bs : List ℕ) → AllByRecursion (λ b. b < 256) bs
     → (xs : List PlacedItem) → read_of bs ≡ Ok xs → written most_bytes (items_of xs) ≡ Ok bs

@@ -2,7 +2,7 @@
 ghost use Rattle.std.specs.Prelude.{◌≡◌};
 ghost use Rattle.schedule.specs.Faults.{number, told};
 ghost use Rattle.schedule.specs.Writing.{told_write};
-ghost use Rattle.schedule.specs.declared.fault.WriteFault.TheVariants as write-fault;
+ghost use Rattle.schedule.specs.declared.fault.WriteFault.TheVariants as write_fault;
 ghost use Rattle.schedule.specs.declared.fault.ReadFault.TheVariants.{File, Memory};
 
 use refusals::{Layer, Refusal};
@@ -121,7 +121,7 @@ impl WriteFault {
 }
 
 impl From<FileFault> for WriteFault {
-    ghost from_gives = { λ e f. f ≡ write-fault.File e };
+    ghost from_gives = { λ e f. f ≡ write_fault.File e };
 
     fn from(e: FileFault) -> WriteFault {
         WriteFault::File(e)
@@ -129,7 +129,7 @@ impl From<FileFault> for WriteFault {
 }
 
 impl From<SettingsFault> for WriteFault {
-    ghost from_gives = { λ e f. f ≡ write-fault.Buffer e };
+    ghost from_gives = { λ e f. f ≡ write_fault.Buffer e };
 
     fn from(e: SettingsFault) -> WriteFault {
         WriteFault::Buffer(e)

@@ -1,6 +1,6 @@
 -- The five choices that are shipped.
 use Rattle.std.specs.Prelude.{ℕ, ◌≤◌, List, [], ◌∷◌}
-use Rattle.std.specs.List.{AllByRecursion as All}
+use Rattle.std.specs.List.{AllByRecursion}
 use Rattle.settings.specs.declared.choice.Choice.{Choice}
 use Rattle.settings.specs.Admission.{Admitted}
 
@@ -20,4 +20,4 @@ shipped_rows d =
 
 -- each of the five is admitted, at every delay in its range
 abbrev pub ShippedAdmitted : Type 0
-ShippedAdmitted = (d : ℕ) → 1 ≤ d → d ≤ 32 → All Admitted (shipped_rows d)
+ShippedAdmitted = (d : ℕ) → 1 ≤ d → d ≤ 32 → AllByRecursion Admitted (shipped_rows d)
