@@ -113,7 +113,7 @@ module _ {R : Type 0} where
     LogTells =
         (i p : ℕ) (x : Step R) → element xs i ≡ Some x → begins_at x p ≡ true → refusal u x (state_at u k xs i) ≡ None
         → (j : ℕ) → i < j → j ≤ length xs → (e : Entry R) × (element (log_at j) (length (log_at i)) ≡ Some e)
-        × (e.station ≡ p) × (e.kind ≡ kind_ordered x) × (e.begin ≡ (state_at u k xs i).clock) × ShowsOrdered x e.value
+        × (e.station ≡ p) × (e.kind ≡ kind_ordered x) × (e.begin ≡ (state_at u k xs i).clock)
 
     -- and there are no other places
     abbrev pub LogOnlyTells : Type 0
@@ -121,14 +121,28 @@ module _ {R : Type 0} where
         (y : ℕ) (e : Entry R) → element whole_log y ≡ Some e
         → (i : ℕ) × (x : Step R) × (element xs i ≡ Some x) × (begins_at x e.station ≡ true) × (refusal u x (state_at u k xs i) ≡ None) × (y ≡ length (log_at i))
 
+    -- what is promised of a run
+    abbrev pub Promised : Type 0
+    Promised = OneOrder × JoinsInTime × EndsInTime × LogTells × LogOnlyTells
+
+    -- an operation's entry shows what its step orders
+    abbrev pub LogShows : Type 0
+    LogShows =
+        (i p : ℕ) (x : Step R) → element xs i ≡ Some x → begins_at x p ≡ true → refusal u x (state_at u k xs i) ≡ None
+        → (j : ℕ) (e : Entry R) → i < j → element (log_at j) (length (log_at i)) ≡ Some e → ShowsOrdered x e.value
+
     -- what an operation shows once it has ended, it shows from then on
     abbrev pub LogStays : Type 0
     LogStays = (i j y : ℕ) (e : Entry R) → i ≤ j → element (log_at i) y ≡ Some e → is_some e.end ≡ true → element (log_at j) y ≡ Some e
 
-    -- what is promised of a run
-    abbrev pub Promised : Type 0
-    Promised = OneOrder × JoinsInTime × EndsInTime × LogTells × LogOnlyTells × LogStays
+    -- what a log shows, it was ordered to show, and shows for good once the operation has ended
+    abbrev pub LogStands : Type 0
+    LogStands = LogShows × LogStays
 
 -- the promises, of every run over one kind of record
 abbrev pub PromisesKept : Type 0 → Type 0
 PromisesKept R = (u : Setup R) (k : ℕ) (xs : List (Step R)) → AdmittedStart u k → Promised u k xs
+
+-- the logs of every run over one kind of record stand
+abbrev pub LogsStand : Type 0 → Type 0
+LogsStand R = (u : Setup R) (k : ℕ) (xs : List (Step R)) → AdmittedStart u k → LogStands u k xs

@@ -1,6 +1,6 @@
 -- The log's places are the operations, as it is promised: each accepted read or write stands at the place where the log then
 -- ended, and of a write shows its record; there are no other places; and what has ended stays. Rests on `Turns`.
-use Rattle.std.proofs.Common.{◌≡◌, ℕ, ◌<◌, true, eqb, length, Some, sym, refl, ap, ◌∙◌}
+use Rattle.std.proofs.Common.{◌≡◌, ℕ, ◌<◌, true, eqb, length, Some, sym, refl, ap, ◌∙◌, subst}
 use Rattle.std.proofs.lemmas.Bool.{both_ways, eqb-true, eq-eqb}
 use Rattle.network.specs.declared.entry.Entry.{Entry}
 use Rattle.network.specs.declared.operation.Task.{Task}
@@ -8,7 +8,7 @@ use Rattle.network.specs.declared.operation.Task.TheVariants as task
 use Rattle.network.specs.declared.step.Step.{Step}
 use Rattle.network.specs.declared.step.Step.TheVariants as step
 use Rattle.network.specs.Hearing.{kind_of}
-use Rattle.network.specs.Promises.{begins_at, kind_ordered, ShowsOrdered, LogTells, LogOnlyTells, LogStays}
+use Rattle.network.specs.Promises.{begins_at, kind_ordered, ShowsOrdered, LogTells, LogOnlyTells, LogShows, LogStays}
 use Rattle.network.specs.Steps.{element}
 use Rattle.runs.proofs.Positions.{Run, state, clock, Accepted}
 use Rattle.runs.proofs.Accepted.{step_of}
@@ -49,7 +49,14 @@ module _ {R : Type 0} (z : Run R) where
 
   pub log_tells : LogTells z.setup z.founders z.steps
   unfolding state Told
-  log_tells i p x e b a j l m = told i p x (e, a) b j l
+  log_tells i p x e b a j l m = let (f, stands, owner, kind, begin, shows) = told i p x (e, a) b j l in (f, stands, owner, kind, begin)
+
+  pub log_shows : LogShows z.setup z.founders z.steps
+  unfolding state Told
+  log_shows i p x e b a j f l h =
+      let (g, stands, owner, kind, begin, shows) = told i p x (e, a) b j l in
+      let same : g.value ≡ f.value = cc in
+      subst (ShowsOrdered x) same shows
 
   -- the step that began the operation at a place of the log
   BegunBy : ℕ → Entry R → Type 0

@@ -8,7 +8,7 @@ use Rattle.network.specs.declared.operation.Task.TheVariants as task
 use Rattle.network.specs.declared.step.Step.{Step}
 use Rattle.network.specs.declared.step.Step.TheVariants as step
 use Rattle.network.specs.Keeping.{active}
-use Rattle.network.specs.Promises.{begins_at, JoinsInTime, EndsInTime, Promised, PromisesKept}
+use Rattle.network.specs.Promises.{begins_at, JoinsInTime, EndsInTime, Promised, PromisesKept, LogStands, LogsStand}
 use Rattle.network.specs.Refusals.{refusal}
 use Rattle.network.specs.Runs.{state_at}
 use Rattle.network.specs.Steps.{element}
@@ -17,7 +17,7 @@ use Rattle.runs.proofs.Accepted.{step_of}
 use Rattle.runs.proofs.Assembly.{one_order}
 use Rattle.runs.proofs.Joins.{joined_in_time}
 use Rattle.runs.proofs.LogOverRuns.{entries}
-use Rattle.runs.proofs.LogTells.{log_tells, log_only_tells, log_stays}
+use Rattle.runs.proofs.LogTells.{log_tells, log_only_tells, log_shows, log_stays}
 use Rattle.runs.proofs.Operations.{Logged, logged_there, entry_ended}
 use Rattle.runs.proofs.Phases.{operation_over}
 
@@ -64,7 +64,13 @@ module _ {R : Type 0} (z : Run R) where
           )
 
   pub promised : Promised z.setup z.founders z.steps
-  promised = (one_order z, joins_in_time, ends_in_time, log_tells z, log_only_tells z, log_stays z)
+  promised = (one_order z, joins_in_time, ends_in_time, log_tells z, log_only_tells z)
+
+  pub log_stands : LogStands z.setup z.founders z.steps
+  log_stands = (log_shows z, log_stays z)
 
 pub promises_kept : (R : Type 0) → PromisesKept R
 promises_kept R u k xs a = promised (record { setup = u; founders = k; steps = xs; admitted = a })
+
+pub logs_stand : (R : Type 0) → LogsStand R
+logs_stand R u k xs a = log_stands (record { setup = u; founders = k; steps = xs; admitted = a })

@@ -4,7 +4,7 @@
 mod examples;
 mod small;
 
-ghost use Rattle.network.specs.Promises.{PromisesKept};
+ghost use Rattle.network.specs.Promises.{PromisesKept, LogsStand};
 ghost use Rattle.runs.specs.Basics.{ClockNeverGoesBack, NumbersStayBelowTheNext, EnoughStationsWork};
 
 pub use examples::examples_meet_the_premises;
@@ -20,9 +20,10 @@ pub fn basics_hold<R: Drop>(first: R) -> u8
 }
 
 // Over every run reads and writes have a single order as one register would give it, stations join within 2D ticks,
-// operations end within 4D ticks, and the log tells exactly the operations.
+// operations end within 4D ticks, and the log tells exactly the operations, with what they were to write, and for good.
 pub fn every_run_keeps_its_promises<R: Drop>(first: R) -> u8
-    ensures { PromisesKept R }
+    ensures promises { PromisesKept R }
+    ensures logs { LogsStand R }
 {
     0
 }
