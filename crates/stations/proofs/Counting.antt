@@ -1,5 +1,5 @@
 -- Counting the numbers that pass a test.
-use Rattle.std.proofs.Common.{◌≡◌, ℕ, zero, suc, ◌+◌, ◌*◌, ◌/◌, ◌%◌, ◌^◌, ◌<◌, ◌≤◌, Bool, true, false, cond, eqb, ◌⊎◌, sym, refl, ap, ◌∙◌, inl, inr, ⊎_elim, add-zero, add_assoc, add-suc, add_comm, arith, pow_pos}
+use Rattle.std.proofs.Common.{◌≡◌, ℕ, zero, suc, ◌+◌, ◌%◌, ◌^◌, ◌<◌, ◌≤◌, Bool, true, false, cond, eqb, ◌⊎◌, sym, refl, ap, ◌∙◌, inl, inr, ⊎_elim, add-zero, add_assoc, add-suc, add_comm, arith, pow_pos}
 use lib.Count.{ones, ones_cat}
 use lib.Pow.{mod-pow-add}
 use Rattle.std.proofs.lemmas.Nat.{mod_below}
