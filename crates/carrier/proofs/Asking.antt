@@ -1,8 +1,8 @@
 -- The room rule for one message and for two, as a make computes it.
-use Rattle.std.proofs.Common.{◌≡◌, ℕ, zero, suc, ◌+◌, ◌<◌, ◌≤◌, Bool, true, false, cond, not, ◌&&◌, ◌||◌, eqb, ltb, leb, ◌⊎◌, List, [], ◌∷◌, sym, refl, ap, ◌∙◌, inl, inr, ⊎_elim, arith}
+use Rattle.std.proofs.Common.{◌≡◌, ℕ, zero, suc, ◌+◌, ◌<◌, ◌≤◌, Bool, true, false, cond, not, eqb, ltb, [], ◌∷◌, sym, refl, ap, ◌∙◌, ⊎_elim, arith}
 use Rattle.std.proofs.lemmas.Bool.{and_parts, and_from, and_left, and_right, or_left, or_right, or_from, or_cases, le-ltb, lt-ltb, eq-eqb, ne_eqb, eqb-true, eqb-false, not-true, not-false, not_from_true, not_from_false, cond-false}
 use Rattle.carrier.specs.Waits.{Waits}
-use Rattle.carrier.specs.Counts.{under, receivers, load, extra, given, fresh, fits, heard}
+use Rattle.carrier.specs.Counts.{under, receivers, load, given, fits, heard}
 use Rattle.carrier.proofs.Rooms.{fits_parts, fits_from, fits_full, fits_stale, room_unheard}
 use Rattle.carrier.specs.declared.message.Post.{Post}
 

@@ -1,12 +1,12 @@
 -- A message posted copy by copy, in the order of the stations.
-use Rattle.std.proofs.Common.{◌≡◌, ℕ, zero, suc, ◌+◌, ◌<◌, ◌≤◌, Bool, true, false, cond, not, ◌&&◌, ◌||◌, eqb, ltb, ◌⊎◌, is_some, Some, None, Option, sym, refl, ap, ◌∙◌, inl, inr, ⊎_elim, arith}
+use Rattle.std.proofs.Common.{◌≡◌, ℕ, ◌+◌, ◌<◌, ◌≤◌, Bool, true, false, cond, ◌&&◌, eqb, ltb, is_some, Some, Option, sym, refl, ap, ◌∙◌, ⊎_elim, arith}
 use mathlib.Core.Path.{fun_ext}
-use Rattle.std.proofs.lemmas.Bool.{and_parts, and_from, and_left, and_right, lt-ltb, le-ltb, ltb-true, cond-true, cond-false, eq-eqb, ne_eqb, cases_Bool, cases_eq, cases_lt}
+use Rattle.std.proofs.lemmas.Bool.{and_parts, and_from, and_left, and_right, lt-ltb, le-ltb, cond-false, eq-eqb, ne_eqb, cases_eq, cases_lt}
 use Rattle.std.proofs.lemmas.Bool.Decides.{nat_tests}
 use Rattle.stations.specs.Members.{how_many}
 use Rattle.stations.proofs.Counting.{how_many_mono, how_many_more}
 use Rattle.carrier.specs.Waits.{Waits, at, sent_to}
-use Rattle.carrier.specs.Counts.{under, copies, load, by_copy}
+use Rattle.carrier.specs.Counts.{under, copies, by_copy}
 use Rattle.carrier.proofs.Copies.{none_under, sent_none}
 use Rattle.carrier.proofs.Rooms.{copy_cost, load_sent}
 

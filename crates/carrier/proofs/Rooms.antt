@@ -1,10 +1,10 @@
 -- The laws of the room rule, for any cost of a message.
-use Rattle.std.proofs.Common.{◌≡◌, ℕ, zero, suc, ◌+◌, ◌^◌, ◌<◌, ◌≤◌, min, Bool, true, false, cond, not, ◌&&◌, ◌||◌, eqb, ltb, leb, ◌⊎◌, List, [], ◌∷◌, sym, refl, ap, ◌∙◌, inl, inr, arith}
+use Rattle.std.proofs.Common.{◌≡◌, ℕ, ◌+◌, ◌^◌, ◌<◌, ◌≤◌, Bool, true, false, not, ◌&&◌, ◌||◌, eqb, ltb, leb, ◌⊎◌, List, [], ◌∷◌, sym, refl, ap, ◌∙◌, inl, inr, arith}
 use Rattle.std.proofs.lemmas.Bool.{and_parts, and_from, leb-true, le-leb, lt-leb, eqb-true, eqb-false, eq-eqb, ltb-false, or_cases, or_left, or_right, or_parts, or_from, and_left, and_right, and_cases, cases_Bool, not-true, not_from_false}
 use Rattle.stations.proofs.Counting.{how_many_bound}
 use Rattle.stations.specs.Members.{member, how_many}
 use Rattle.carrier.specs.Waits.{Waits, Within, nothing, sent_to, posted}
-use Rattle.carrier.specs.Counts.{total, under, receivers, by_copy, by_message, load, extra, given, fresh, fits, heard, StepSized}
+use Rattle.carrier.specs.Counts.{under, receivers, by_copy, by_message, load, extra, given, fresh, fits, heard, StepSized}
 use Rattle.carrier.proofs.Sums.{total_le, total_none, total_rise}
 use Rattle.carrier.proofs.Copies.{under_le, under_nothing, under_rise, under_off, posted_none}
 use Rattle.carrier.specs.declared.message.Held.{Held}

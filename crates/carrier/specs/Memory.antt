@@ -1,5 +1,5 @@
 -- How much memory a carrier wants.
-use Rattle.std.specs.Prelude.{ℕ, Bool, true, false, cond, Ok, Err, Result, nat_le}
+use Rattle.std.specs.Prelude.{ℕ, cond, Ok, Err, Result, nat_le}
 use Rattle.refusals.specs.declared.Layer.TheVariants.{Settings}
 use Rattle.refusals.specs.declared.Refusal.{Refusal}
 use Rattle.carrier.specs.declared.memory.TooSmall.{TooSmall}

@@ -1,5 +1,5 @@
 -- What waits in a carrier: a function from message number and receiver to the copy.
-use Rattle.std.specs.Prelude.{◌≡◌, ℕ, min, Bool, true, false, cond, ◌&&◌, Some, None, Ok, Err, Option, Result, ◌==◌}
+use Rattle.std.specs.Prelude.{◌≡◌, ℕ, Bool, true, false, cond, ◌&&◌, Some, None, Ok, Err, Option, Result, ◌==◌}
 use Rattle.stations.specs.Members.{member}
 use Rattle.carrier.specs.declared.fault.CarrierFault.{CarrierFault}
 use Rattle.carrier.specs.declared.fault.CarrierFault.TheVariants.{NotWaiting, NoRoom}

@@ -8,7 +8,7 @@ use Rattle.network.specs.declared.step.Step.{Step}
 use Rattle.network.specs.declared.step.Step.TheVariants.{Tick, Enter, Leave, Crash, Read, Write, Deliver}
 use Rattle.network.specs.Changes.{changed, said, actor, delivered}
 use Rattle.network.specs.Knowing.{Set}
-use Rattle.network.specs.Posting.{receivers, anybody, mail, mails, with_mail, with_mails, sent_by, send}
+use Rattle.network.specs.Posting.{receivers, anybody, mail, mails, with_mail, with_mails, send}
 use Rattle.network.specs.Refusals.{refusal}
 use Rattle.network.specs.Runs.{run}
 use Rattle.network.specs.States.{Copy, Mail, Setup, State, new_run, active_set}

@@ -1,6 +1,6 @@
 -- A run as it can be computed: whether a tick is refused is looked for below the next message number.
-use Rattle.std.proofs.Common.{◌≡◌, ℕ, suc, ◌+◌, ◌*◌, ◌^◌, ◌≤◌, Bool, true, false, cond, not, ltb, List, [], ◌∷◌, ◌++◌, length, Some, None, Option, sym, refl, ap, ◌∙◌, ap₂, arith}
-use Rattle.carrier.specs.Counts.{least, when, earliest}
+use Rattle.std.proofs.Common.{◌≡◌, ℕ, suc, ◌+◌, ◌*◌, ◌^◌, ◌≤◌, Bool, true, false, cond, not, ltb, List, [], ◌∷◌, ◌++◌, length, Some, None, Option, refl, ap, ◌∙◌, ap₂, arith}
+use Rattle.carrier.specs.Counts.{least, when}
 use Rattle.refusals.specs.declared.Refusal.{Refusal}
 use Rattle.network.specs.declared.fault.StepFault.{StepFault}
 use Rattle.network.specs.declared.fault.StepFault.TheVariants.{CopyDue, ClockEnd}
@@ -11,11 +11,11 @@ use Rattle.network.specs.declared.step.Step.{Step}
 use Rattle.network.specs.declared.step.Step.TheVariants.{Tick, Enter, Leave, Crash, Read, Write, Deliver}
 use Rattle.network.specs.Changes.{changed, said, actor, delivered, answer, heard}
 use Rattle.network.specs.Knowing.{Set}
-use Rattle.network.specs.Posting.{receivers, anybody, mail, mails, send, sent_by}
+use Rattle.network.specs.Posting.{receivers, anybody, mail, mails}
 use Rattle.network.specs.Refusals.{Test, unless, first_of, due, last_tick, tests, refusal}
 use Rattle.network.specs.Runs.{run}
 use Rattle.network.specs.Saying.{letters, says}
-use Rattle.network.specs.States.{Copy, Mail, Setup, State, active_set, new_run}
+use Rattle.network.specs.States.{Copy, Mail, Setup, State, active_set}
 use Rattle.network.specs.Steps.{next, unless_refused, after}
 use Rattle.network.specs.Worked.{told_if, told_refusals}
 use Rattle.network.proofs.Numbers.{NoneFrom, after_below, earliest_below}

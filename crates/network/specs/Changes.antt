@@ -1,8 +1,6 @@
 -- What each step changes before anything is sent, and what is then sent.
-use Rattle.std.specs.Prelude.{ℕ, ◌+◌, Bool, true, false, cond, List, [], ◌∷◌, Some, None, Option, ◌==◌}
+use Rattle.std.specs.Prelude.{ℕ, ◌+◌, cond, List, [], ◌∷◌, Some, None, Option, ◌==◌}
 use Rattle.carrier.specs.Waits.{without, except}
-use Rattle.carrier.specs.declared.message.Held.{Held}
-use Rattle.settings.specs.declared.choice.Choice.{Choice}
 use Rattle.stations.specs.Members.{put}
 use Rattle.network.specs.declared.content.Content.{Content}
 use Rattle.network.specs.declared.content.Content.TheVariants.{Enter, EnterEcho, Joined, JoinedEcho, Leave, LeaveEcho, Query, Response, Update, Ack, UpdateEcho}

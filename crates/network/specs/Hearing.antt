@@ -1,5 +1,5 @@
 -- What a station becomes on hearing a message.
-use Rattle.std.specs.Prelude.{ℕ, ◌+◌, ◌*◌, Bool, true, false, cond, not, ◌&&◌, Some, None, Option, ◌==◌, nat_le}
+use Rattle.std.specs.Prelude.{ℕ, ◌+◌, ◌*◌, Bool, false, cond, not, ◌&&◌, Some, None, Option, ◌==◌, nat_le}
 use Rattle.settings.specs.declared.choice.Choice.{Choice}
 use Rattle.network.specs.declared.content.Content.{Content}
 use Rattle.network.specs.declared.content.Content.TheVariants.{Enter, EnterEcho, Joined, JoinedEcho, Leave, LeaveEcho, Query, Response, Update, Ack, UpdateEcho}

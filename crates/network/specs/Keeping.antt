@@ -1,5 +1,5 @@
 -- A station: how it is at the start and at its entry, and a station with one part changed.
-use Rattle.std.specs.Prelude.{ℕ, Bool, true, false, not, ◌&&◌, Some, None, Option, nat_lt}
+use Rattle.std.specs.Prelude.{ℕ, Bool, true, false, not, ◌&&◌, None, Option, nat_lt}
 use Rattle.stations.specs.Members.{nobody}
 use Rattle.network.specs.declared.known.Known.{Known}
 use Rattle.network.specs.declared.operation.Operation.{Operation}

@@ -13,5 +13,6 @@ pub mod Refusals
 pub mod Steps
 pub mod Runs
 pub mod Promises
+pub mod Shown
 pub mod Limits
 pub mod Worked

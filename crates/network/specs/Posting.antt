@@ -1,5 +1,5 @@
 -- Sending: letters become messages with numbers, and copies for those who are active.
-use Rattle.std.specs.Prelude.{ℕ, ◌+◌, Bool, true, false, cond, ◌&&◌, List, [], ◌∷◌, length, Some, None, Option, ◌==◌, nat_lt}
+use Rattle.std.specs.Prelude.{ℕ, ◌+◌, Bool, cond, ◌&&◌, List, [], ◌∷◌, length, Some, ◌==◌, nat_lt}
 use Rattle.carrier.specs.Waits.{Waits}
 use Rattle.stations.specs.Members.{how_many}
 use Rattle.network.specs.declared.letter.Letter.{Letter}

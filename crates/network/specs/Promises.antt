@@ -1,5 +1,5 @@
 -- The three promises of every run, as statements, and that the log tells the operations.
-use Rattle.std.specs.Prelude.{◌≡◌, ℕ, ◌+◌, ◌*◌, ◌<◌, ◌≤◌, Bool, true, false, ◌⊎◌, List, [], ◌∷◌, ◌++◌, length, is_some, Some, None, Option, ◌==◌}
+use Rattle.std.specs.Prelude.{◌≡◌, ℕ, ◌+◌, ◌*◌, ◌<◌, ◌≤◌, Bool, true, false, ◌⊎◌, List, [], ◌∷◌, ◌++◌, length, is_some, Some, None, ◌==◌}
 use Rattle.std.specs.Option.{option_to_list}
 use Rattle.network.specs.declared.entry.Entry.{Entry}
 use Rattle.network.specs.declared.operation.Kind.{Kind}
@@ -10,7 +10,7 @@ use Rattle.network.specs.declared.step.Step.TheVariants as step
 use Rattle.network.specs.Keeping.{active}
 use Rattle.network.specs.Refusals.{refusal}
 use Rattle.network.specs.Runs.{state_at, AdmittedStart}
-use Rattle.network.specs.States.{Setup, State}
+use Rattle.network.specs.States.{Setup}
 use Rattle.network.specs.Steps.{element}
 
 -- the element x stands at some place of the list

@@ -1,5 +1,5 @@
 -- Which steps are refused: for each kind of step its tests in order, so that the smallest number is the first.
-use Rattle.std.specs.Prelude.{ℕ, ◌+◌, Bool, true, false, cond, not, List, [], ◌∷◌, length, is_some, Some, None, Option, nat_le, nat_lt}
+use Rattle.std.specs.Prelude.{ℕ, ◌+◌, Bool, true, false, not, List, [], ◌∷◌, length, is_some, Some, None, Option, nat_le, nat_lt}
 use Rattle.carrier.specs.Counts.{earliest}
 use Rattle.carrier.specs.Waits.{Waits}
 use Rattle.carrier.specs.declared.fault.CarrierFault.TheVariants.{NotWaiting, NumbersUsedUp, NoRoom}

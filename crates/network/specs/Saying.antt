@@ -5,7 +5,6 @@ use Rattle.network.specs.declared.content.Content.TheVariants.{Enter, EnterEcho,
 use Rattle.network.specs.declared.letter.Letter.{Letter}
 use Rattle.network.specs.declared.letter.Speech.{Speech}
 use Rattle.network.specs.declared.letter.Speech.TheVariants.{Silent, One, Two}
-use Rattle.network.specs.declared.letter.To.{To}
 use Rattle.network.specs.declared.letter.To.TheVariants.{All, Only}
 use Rattle.network.specs.declared.operation.Operation.{Operation}
 use Rattle.network.specs.declared.operation.Operation.TheVariants.{Idle, PhaseOne, PhaseTwo}

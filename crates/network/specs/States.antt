@@ -1,5 +1,5 @@
 -- The state of a network, what a run is set up with, and a new run.
-use Rattle.std.specs.Prelude.{ℕ, Bool, cond, ◌&&◌, List, Option, nat_lt}
+use Rattle.std.specs.Prelude.{ℕ, Bool, cond, ◌&&◌, List, nat_lt}
 use Rattle.carrier.specs.declared.message.Held.{Held}
 use Rattle.carrier.specs.Waits.{Waits, nothing}
 use Rattle.settings.specs.declared.choice.Choice.{Choice}

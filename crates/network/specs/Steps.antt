@@ -7,7 +7,6 @@ use Rattle.network.specs.declared.operation.Operation.TheVariants.{Idle, PhaseOn
 use Rattle.network.specs.declared.outcome.Outcome.{Outcome}
 use Rattle.network.specs.declared.outcome.Outcome.TheVariants.{Done, Refused}
 use Rattle.network.specs.declared.step.Step.{Step}
-use Rattle.network.specs.declared.step.Step.TheVariants as step
 use Rattle.network.specs.Changes.{changed, said, actor}
 use Rattle.network.specs.Posting.{send}
 use Rattle.network.specs.Refusals.{step_mails, refusal}

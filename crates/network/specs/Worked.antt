@@ -3,7 +3,6 @@ use Rattle.std.specs.Prelude.{◌≡◌, ℕ, zero, suc, ◌+◌, ◌*◌, true,
 use Rattle.refusals.specs.declared.Layer.TheVariants as layer
 use Rattle.refusals.specs.declared.Refusal.{Refusal}
 use Rattle.settings.specs.Bench.{SettingsCases}
-use Rattle.network.specs.declared.entry.Entry.{Entry}
 use Rattle.network.specs.declared.fault.StepFault.{StepFault}
 use Rattle.network.specs.declared.operation.Kind.TheVariants as kind
 use Rattle.network.specs.declared.step.Step.{Step}

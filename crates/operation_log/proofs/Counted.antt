@@ -1,12 +1,12 @@
 -- The log once p's latest entry is written, or where it has none; and with one entry more.
-use Rattle.std.proofs.Common.{◌≡◌, ℕ, ◌+◌, ◌<◌, ◌≤◌, Bool, true, false, cond, ltb, List, [], ◌∷◌, ◌++◌, length, get_or, take, drop, set, Some, None, Option, sym, refl, ap, ◌∙◌, arith, length-set, length-take, ltb-true}
+use Rattle.std.proofs.Common.{◌≡◌, ℕ, ◌+◌, ◌<◌, true, cond, List, [], ◌∷◌, ◌++◌, length, get_or, take, drop, set, Some, None, sym, refl, ap, ◌∙◌, arith, length-set, length-take, ltb-true}
 use Rattle.std.proofs.lemmas.List.{take_more_set}
 use Rattle.std.proofs.lemmas.Bool.{cond-true}
 use Rattle.stations.specs.Members.{put}
 use Rattle.network.specs.declared.entry.Entry.{Entry}
 use Rattle.operation_log.specs.declared.log.OperationLog.{OperationLog}
 use Rattle.operation_log.specs.Entries.{latest_of, log_of, places, can_open, can_count, counts_may_rise, latest_entry, SameMemory}
-use Rattle.network.specs.Logs.{Log, at_latest, changed_at}
+use Rattle.network.specs.Logs.{Log, at_latest}
 use Rattle.operation_log.proofs.Places.{element_in, front_short, changed_none, changed_some, take_set, drop_set, room, put_latest}
 
 module _ {R : Type 0} (l : OperationLog R) where

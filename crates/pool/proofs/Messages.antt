@@ -1,9 +1,9 @@
 -- What a change of one kept message, or of all, does to the copies that wait.
-use Rattle.std.proofs.Common.{◌≡◌, ℕ, zero, suc, ◌+◌, ◌<◌, ◌≤◌, Bool, true, false, cond, not, ◌&&◌, eqb, ltb, ◌⊎◌, [], ◌∷◌, is_some, Some, None, Option, sym, refl, ap, ◌∙◌, inl, inr, ⊎_elim, arith}
+use Rattle.std.proofs.Common.{◌≡◌, ℕ, zero, suc, ◌<◌, Bool, true, false, cond, not, ◌&&◌, eqb, ◌⊎◌, [], ◌∷◌, is_some, Some, None, Option, sym, refl, ap, ◌∙◌, inl, inr, ⊎_elim, arith}
 use mathlib.Core.Path.{fun_ext}
 use Rattle.std.proofs.lemmas.Bool.{and_from, and_left, and_right, ltb-true, lt-ltb, eq-eqb, ne_eqb, eqb-true, eqb-false, not_from_true, not_from_false, cond-true, cond-false, cases_Bool, cases_eq, cases_lt}
 use Rattle.stations.specs.Members.{member, how_many, put, removed}
-use Rattle.stations.proofs.Counting.{how_many_zero, how_many_none, put_here, put_other}
+use Rattle.stations.proofs.Counting.{how_many_zero, how_many_none}
 use Rattle.stations.proofs.Removing.{member_removed}
 use Rattle.stations.proofs.Words.{member_past}
 use Rattle.carrier.specs.Waits.{same, at, except, nothing, posted, sent_to}

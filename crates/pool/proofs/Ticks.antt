@@ -1,5 +1,5 @@
 -- The earliest tick sent of the kept messages is the earliest that waits.
-use Rattle.std.proofs.Common.{◌≡◌, ℕ, zero, suc, ◌+◌, ◌^◌, ◌<◌, ◌≤◌, Bool, true, false, cond, ◌⊎◌, is_some, Some, None, Option, sym, refl, ap, ◌∙◌, inl, inr, ⊎_elim, arith}
+use Rattle.std.proofs.Common.{◌≡◌, ℕ, zero, suc, ◌^◌, ◌<◌, Bool, true, false, is_some, Some, None, Option, sym, refl, ap, ◌∙◌, ⊎_elim, arith}
 use mathlib.Core.Path.{fun_ext}
 use Rattle.std.proofs.lemmas.Bool.{ltb-true, cond-true, cond-false, cases_Bool}
 use Rattle.stations.specs.Members.{member, how_many}
@@ -10,7 +10,7 @@ use Rattle.carrier.specs.declared.message.Held.{Held}
 use Rattle.rack.specs.Racks.{stored}
 use Rattle.rack.specs.declared.rack.Rack.{Rack}
 use Rattle.pool.specs.declared.shared.Shared.{Shared}
-use Rattle.pool.specs.Pooled.{copy_of, opened, waiters, wanted}
+use Rattle.pool.specs.Pooled.{opened, waiters, wanted}
 use Rattle.pool.specs.Meaning.{pooled, Whole, Wanted}
 
 -- one that passes, where some are counted

@@ -1,11 +1,11 @@
 -- As many messages wait in a pool as it keeps records.
-use Rattle.std.specs.Prelude.{◌≡◌, ℕ, zero, suc, ◌+◌, ◌^◌, ◌<◌, ◌≤◌, min, Bool, true, false, cond, is_some, Some, None, Option, refl}
+use Rattle.std.specs.Prelude.{◌≡◌, ℕ, zero, suc, ◌^◌, ◌≤◌, min, Bool, true, false, cond, is_some, Some, None, Option, refl}
 use Rattle.std.proofs.Math.Path.{sym}
-use Rattle.std.proofs.Common.{ap, ◌∙◌, arith}
+use Rattle.std.proofs.Common.{◌∙◌, arith}
 use Rattle.std.proofs.lemmas.Bool.{ltb-true, cond-false}
 use Rattle.stations.specs.Members.{member, how_many}
 use Rattle.stations.proofs.Counting.{how_many_same, how_many_none}
-use Rattle.carrier.specs.Counts.{total, under, load, by_copy, by_message, copies, messages}
+use Rattle.carrier.specs.Counts.{under, load, by_copy, by_message, copies, messages}
 use Rattle.carrier.proofs.Sums.{total_same}
 use Rattle.carrier.specs.declared.message.Held.{Held}
 use Rattle.rack.specs.Racks.{stored, capacity}

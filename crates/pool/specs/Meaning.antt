@@ -1,5 +1,5 @@
 -- What waits in a pool.
-use Rattle.std.specs.Prelude.{◌≡◌, ℕ, suc, Bool, true, false, is_some}
+use Rattle.std.specs.Prelude.{◌≡◌, ℕ, suc, true, false, is_some}
 use Rattle.carrier.specs.Waits.{Waits}
 use Rattle.carrier.specs.declared.message.Held.{Held}
 use Rattle.rack.specs.Racks.{stored}

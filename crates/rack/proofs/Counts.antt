@@ -1,13 +1,12 @@
 -- How many records are live is how many copies wait.
-use Rattle.std.proofs.Common.{◌≡◌, ℕ, zero, suc, ◌+◌, ◌*◌, ◌^◌, ◌<◌, ◌≤◌, Bool, true, false, cond, not, ◌&&◌, ◌||◌, eqb, ltb, ◌⊎◌, List, [], ◌∷◌, ◌++◌, is_some, Some, None, Option, sym, refl, ap, ◌∙◌, inl, inr, ⊎_elim, arith}
+use Rattle.std.proofs.Common.{◌≡◌, ℕ, ◌+◌, ◌*◌, ◌^◌, ◌≤◌, Bool, true, false, List, [], ◌∷◌, is_some, refl, ap, ◌∙◌, ⊎_elim, arith}
 use Rattle.std.proofs.lemmas.Bool.{eq-eqb, cases_Bool}
 use Rattle.stations.specs.Members.{how_many}
 use Rattle.stations.proofs.Counting.{how_many_same, how_many_more, how_many_none}
-use Rattle.carrier.specs.Counts.{total, under, load, by_copy, copies}
+use Rattle.carrier.specs.Counts.{under, load, copies}
 use Rattle.carrier.proofs.Sums.{total_same, total_rows}
-use Rattle.carrier.specs.declared.message.Held.{Held}
 use Rattle.rack.specs.declared.entry.Entry.{Entry}
-use Rattle.rack.specs.Entries.{key_of, held_under, waiting, rising, lives}
+use Rattle.rack.specs.Entries.{held_under, waiting, rising, lives}
 use Rattle.rack.proofs.Keys.{waiting_at}
 use Rattle.rack.proofs.Order.{rising_parts, rising_bound, held_other, held_below}
 

@@ -1,7 +1,7 @@
 -- What a change of one record, a pass over all and one record more leave of what a store keeps to.
-use Rattle.std.proofs.Common.{◌≡◌, ℕ, zero, suc, ◌+◌, ◌-◌, ◌^◌, ◌<◌, ◌≤◌, min, Bool, true, false, cond, not, ◌&&◌, ◌||◌, eqb, leb, ◌⊎◌, List, [], ◌∷◌, ◌++◌, length, get_or, take, drop, set, Some, None, Option, sym, refl, ap, ◌∙◌, subst, inl, inr, ⊎_elim, arith}
+use Rattle.std.proofs.Common.{◌≡◌, ℕ, zero, suc, ◌+◌, ◌-◌, ◌^◌, ◌<◌, ◌≤◌, min, Bool, true, false, cond, not, ◌&&◌, ◌||◌, eqb, List, [], ◌∷◌, ◌++◌, length, get_or, take, drop, set, Some, None, Option, sym, refl, ap, ◌∙◌, ⊎_elim, arith}
 use Rattle.std.specs.List.{prefix_len}
-use Rattle.std.proofs.lemmas.List.{set_at, length-take-le, length-set, take-append-drop, append-nil, take_all, drop_all}
+use Rattle.std.proofs.lemmas.List.{set_at, length-take-le, length-set, take-append-drop, take_all, drop_all}
 use Rattle.std.proofs.lemmas.Bool.{or_left, or_right, cond-true, cond-false, cases_Bool, cases_eq, eq-eqb, ne_eqb, not_from_true, not_from_false}
 use Rattle.carrier.specs.declared.message.Held.{Held}
 use Rattle.rack.specs.declared.entry.Entry.{Entry}
@@ -9,7 +9,7 @@ use Rattle.rack.specs.declared.store.Store.{Store}
 use Rattle.rack.specs.Entries.{held_under, rising, lives, steady, before, dead, keyed, last_sent, sifted, changed, changed_entry}
 use Rattle.rack.specs.Stores.{kept, size, Sound, Continues}
 use Rattle.rack.proofs.Order.{held_mid}
-use Rattle.rack.proofs.Changes.{rising_swap, held_swap, rising_insert, lives_mid, lives_append, leading_skip, leading_grows, leading_swap, leading_insert, steady_swap, steady_push, last_read}
+use Rattle.rack.proofs.Changes.{rising_swap, held_swap, rising_insert, lives_mid, leading_skip, leading_grows, leading_swap, leading_insert, steady_swap, steady_push, last_read}
 use Rattle.rack.proofs.Searching.{in_use, read_in_use, around, place_within}
 use Rattle.rack.proofs.Sifting.{sifted_rising, sifted_steady, sifted_lives, sifted_first}
 

@@ -1,11 +1,10 @@
 -- Whether a copy is held under a number, for any station, and how many copies a rack holds at most.
-use Rattle.std.proofs.Common.{◌≡◌, ℕ, zero, suc, ◌+◌, ◌-◌, ◌*◌, ◌^◌, ◌<◌, ◌≤◌, Bool, true, false, cond, not, ◌&&◌, ◌||◌, eqb, ltb, ◌⊎◌, List, [], ◌∷◌, length, get_or, take, drop, is_some, Some, None, Option, sym, refl, ap, ◌∙◌, inl, inr, ⊎_elim, one-add, arith}
+use Rattle.std.proofs.Common.{◌≡◌, ℕ, ◌+◌, ◌-◌, ◌^◌, ◌<◌, ◌≤◌, Bool, true, false, cond, not, ◌&&◌, ◌||◌, eqb, ltb, List, [], ◌∷◌, length, get_or, take, drop, is_some, Some, None, sym, refl, ap, ◌∙◌, ⊎_elim, one-add, arith}
 use Rattle.std.specs.List.{prefix_len}
-use Rattle.std.proofs.lemmas.Bool.{and_parts, and_from, and_left, and_right, or_parts, or_left, or_right, ltb-true, ltb-false, lt-ltb, le-ltb, eq-eqb, ne_eqb, not_from_true, not_from_false, cond-true, cases_Bool}
+use Rattle.std.proofs.lemmas.Bool.{and_parts, and_from, and_left, or_parts, or_left, ltb-true, ltb-false, lt-ltb, le-ltb, eq-eqb, ne_eqb, not_from_true, not_from_false, cond-true, cases_Bool}
 use Rattle.stations.specs.Members.{how_many}
 use Rattle.stations.proofs.Counting.{how_many_none, how_many_some}
 use Rattle.carrier.specs.Counts.{copies, under}
-use Rattle.carrier.specs.declared.message.Held.{Held}
 use Rattle.rack.specs.declared.entry.Entry.{Entry}
 use Rattle.rack.specs.declared.rack.Rack.{Rack}
 use Rattle.rack.specs.Entries.{key_of, held_under, waiting, rising, before, busy}
@@ -14,7 +13,7 @@ use Rattle.rack.specs.Stores.{kept, Sound}
 use Rattle.rack.proofs.Order.{rising_parts, rising_at, held_other, held_below}
 use Rattle.rack.proofs.Keys.{waiting_at}
 use Rattle.rack.proofs.Counts.{copies_lives}
-use Rattle.rack.proofs.Searching.{in_use, from_place, none_from}
+use Rattle.rack.proofs.Searching.{in_use, from_place}
 use Rattle.rack.proofs.Sifting.{lives_le}
 
 module _ {X : Type 0} where

@@ -1,10 +1,10 @@
 -- Records in rising order: where a key stands, and what is held under it.
-use Rattle.std.proofs.Common.{◌≡◌, ℕ, zero, suc, ◌+◌, ◌*◌, ◌^◌, ◌<◌, ◌≤◌, Bool, true, false, cond, not, ◌&&◌, ◌||◌, eqb, ltb, leb, ◌⊎◌, List, [], ◌∷◌, ◌++◌, length, get_or, take, drop, Some, None, Option, sym, refl, ap, ◌∙◌, inl, inr, ⊎_elim, one-add, arith}
+use Rattle.std.proofs.Common.{◌≡◌, ℕ, zero, suc, ◌+◌, ◌^◌, ◌<◌, ◌≤◌, Bool, true, false, cond, ◌&&◌, eqb, leb, List, [], ◌∷◌, ◌++◌, length, get_or, drop, Some, None, Option, sym, refl, ap, ◌∙◌, ⊎_elim, one-add, arith}
 use Rattle.std.specs.List.{prefix_len}
-use Rattle.std.proofs.lemmas.Bool.{and_parts, and_from, and_left, and_right, leb-true, le-leb, ltb-true, ltb-false, lt-ltb, eq-eqb, ne_eqb, cond-true, cond-false, cases_Bool, cases_eq}
+use Rattle.std.proofs.lemmas.Bool.{and_parts, and_from, and_right, leb-true, le-leb, ltb-true, ltb-false, lt-ltb, ne_eqb, cond-false, cases_Bool, cases_eq}
 use Rattle.carrier.specs.declared.message.Held.{Held}
 use Rattle.rack.specs.declared.entry.Entry.{Entry}
-use Rattle.rack.specs.Entries.{held_under, rising, lives, before}
+use Rattle.rack.specs.Entries.{held_under, rising, before}
 
 module _ {X : Type 0} where
   -- the parts of the order at the first record

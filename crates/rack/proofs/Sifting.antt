@@ -1,11 +1,11 @@
 -- The live records with what a rule leaves of each, and the loop that keeps them in place.
-use Rattle.std.proofs.Common.{◌≡◌, ℕ, zero, suc, ◌+◌, ◌*◌, ◌%◌, ◌^◌, ◌<◌, ◌≤◌, Bool, true, false, cond, not, ◌&&◌, ◌||◌, eqb, leb, ◌⊎◌, List, [], ◌∷◌, ◌++◌, length, get_or, take, drop, set, Some, None, Option, sym, refl, ap, ◌∙◌, inl, inr, ⊎_elim, arith}
+use Rattle.std.proofs.Common.{◌≡◌, ℕ, ◌+◌, ◌%◌, ◌<◌, ◌≤◌, Bool, true, false, cond, eqb, List, [], ◌∷◌, ◌++◌, length, get_or, take, drop, set, Some, None, Option, sym, refl, ap, ◌∙◌, ⊎_elim, arith}
 use Rattle.std.specs.List.{prefix_len}
 use Rattle.std.proofs.lemmas.List.{length-set, take_more, take_more_set, drop-set-lt, drop_more, append-nil}
 use Rattle.std.proofs.lemmas.Bool.{and_from, and_right, le-leb, eq-eqb, ne_eqb, cond-true, cond-false, cases_Bool, cases_eq}
 use Rattle.carrier.specs.declared.message.Held.{Held}
 use Rattle.rack.specs.declared.entry.Entry.{Entry}
-use Rattle.rack.specs.Entries.{held_under, rising, lives, steady, dead, keyed, with_content, left_of, trimmed_held, onto, sifted, entry_left, rest_of}
+use Rattle.rack.specs.Entries.{held_under, rising, lives, steady, dead, keyed, left_of, trimmed_held, onto, sifted, entry_left, rest_of}
 use Rattle.rack.proofs.Order.{rising_parts, rising_less, held_other, held_below}
 use Rattle.rack.proofs.Changes.{steady_parts, steady_less}
 

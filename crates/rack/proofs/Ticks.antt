@@ -1,12 +1,11 @@
 -- The earliest tick sent, among records and among what waits.
-use Rattle.std.proofs.Common.{◌≡◌, ℕ, zero, suc, ◌+◌, ◌*◌, ◌/◌, ◌%◌, ◌^◌, ◌<◌, ◌≤◌, min, Bool, true, false, cond, not, ◌&&◌, ◌||◌, eqb, ltb, leb, ◌⊎◌, List, [], ◌∷◌, ◌++◌, length, get_or, Some, None, Option, sym, refl, ap, ◌∙◌, subst, inl, inr, ⊎_elim, one-add, arith}
+use Rattle.std.proofs.Common.{◌≡◌, ℕ, ◌+◌, ◌/◌, ◌%◌, ◌^◌, ◌<◌, ◌≤◌, min, true, eqb, ◌⊎◌, List, [], ◌∷◌, length, get_or, Some, None, Option, sym, refl, ap, ◌∙◌, subst, inl, inr, ⊎_elim, one-add, arith}
 use Rattle.std.specs.List.{prefix_len}
 use Rattle.std.proofs.lemmas.Bool.{and_from, and_right, cond-true, cond-false, eq-eqb, cases_Bool, cases_lt}
 use Rattle.carrier.specs.Counts.{earlier, when, earliest}
 use Rattle.carrier.proofs.Earliest.{Above, above_less, earlier_left, Earliest, earliest_is}
-use Rattle.carrier.specs.declared.message.Held.{Held}
 use Rattle.rack.specs.declared.entry.Entry.{Entry}
-use Rattle.rack.specs.Entries.{key_of, held_under, waiting, rising, steady, dead, sent_of, soonest}
+use Rattle.rack.specs.Entries.{key_of, held_under, waiting, rising, steady, dead, soonest}
 use Rattle.rack.proofs.Order.{rising_parts, rising_bound, held_other}
 use Rattle.rack.proofs.Changes.{steady_parts}
 use Rattle.rack.proofs.Keys.{waiting_at}

@@ -1,5 +1,5 @@
 -- What a store of records keeps to.
-use Rattle.std.specs.Prelude.{◌≡◌, ℕ, ◌≤◌, Bool, true, not, ◌||◌, List, length, take}
+use Rattle.std.specs.Prelude.{◌≡◌, ℕ, ◌≤◌, true, not, ◌||◌, List, length, take}
 use Rattle.std.specs.List.{prefix_len}
 use Rattle.rack.specs.declared.entry.Entry.{Entry}
 use Rattle.rack.specs.declared.store.Store.{Store}

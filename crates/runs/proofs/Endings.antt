@@ -10,7 +10,6 @@ use Rattle.network.specs.declared.operation.Kind.{Kind}
 use Rattle.network.specs.declared.operation.Operation.{Operation}
 use Rattle.network.specs.declared.operation.Operation.TheVariants.{Idle, PhaseOne, PhaseTwo}
 use Rattle.network.specs.declared.operation.Task.{Task}
-use Rattle.network.specs.declared.operation.Task.TheVariants as task
 use Rattle.network.specs.declared.station.Station.{Station}
 use Rattle.network.specs.Changes.{log_heard}
 use Rattle.network.specs.Hearing.{hear, kind_of}

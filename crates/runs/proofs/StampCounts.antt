@@ -4,7 +4,6 @@ use Rattle.std.proofs.Common.{◌≡◌, ℕ, zero, suc, ◌+◌, ◌-◌, ◌<�
 use Rattle.std.proofs.lemmas.Bool.{both_ways, cases_eq}
 use Rattle.stations.specs.Members.{put, how_many}
 use Rattle.stations.proofs.Counting.{put_here, put_other, how_many_none}
-use Rattle.network.specs.declared.content.Content.TheVariants.{Enter, Leave}
 use Rattle.network.specs.declared.letter.Letter.{Letter}
 use Rattle.network.specs.declared.operation.Operation.{Operation}
 use Rattle.network.specs.declared.operation.Task.{Task}

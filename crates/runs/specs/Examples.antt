@@ -8,7 +8,7 @@ use Rattle.network.specs.declared.step.Step.{Step}
 use Rattle.network.specs.declared.step.Step.TheVariants.{Tick, Enter, Crash, Read, Write, Deliver}
 use Rattle.network.specs.Keeping.{active}
 use Rattle.network.specs.Runs.{run, AdmittedStart}
-use Rattle.network.specs.States.{Setup, State, new_run}
+use Rattle.network.specs.States.{Setup, new_run}
 use Rattle.network.specs.Worked.{Pair, pair, two_stations, asked, spread, each, told_refusals}
 
 -- the log entry of an operation on 7/9, with as many replies in each phase

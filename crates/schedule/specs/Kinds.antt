@@ -1,5 +1,5 @@
 -- The kinds of schedule records, and the body of each.
-use Rattle.std.specs.Prelude.{ℕ, ◌+◌, cond, List, [], ◌++◌, drop, Some, None, Option, ◌==◌}
+use Rattle.std.specs.Prelude.{ℕ, cond, List, [], ◌++◌, drop, Some, None, Option, ◌==◌}
 use Rattle.fields.specs.Numbers.{two, four, le2, le4}
 use Rattle.records.specs.declared.class.Class.{Class}
 use Rattle.records.specs.declared.class.Class.TheVariants.{Response, Gas}

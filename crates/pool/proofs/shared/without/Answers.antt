@@ -1,4 +1,4 @@
-use Rattle.std.proofs.Common.{ℕ, cond, eqb, Some, None, sym, ap, ◌∙◌}
+use Rattle.std.proofs.Common.{eqb, Some, sym, ap, ◌∙◌}
 use Rattle.std.proofs.lemmas.Bool.{cond-true, cond-false}
 use Rattle.stations.specs.Members.{member, how_many}
 use Rattle.stations.specs.declared.Stations.{Stations}

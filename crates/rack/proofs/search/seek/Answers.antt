@@ -1,4 +1,4 @@
-use Rattle.std.proofs.Common.{◌+◌, ◌-◌, ◌/◌, ◌<◌, ◌≤◌, ap, arith}
+use Rattle.std.proofs.Common.{◌<◌, ◌≤◌, ap, arith}
 use Rattle.rack.specs.Entries.{before}
 use Rattle.rack.specs.declared.entry.Entry.{Entry}
 use Rattle.rack.proofs.Searching.{place_within, seek_past, seek_not}

@@ -1,4 +1,4 @@
-use Rattle.std.proofs.Common.{◌≡◌, ℕ, ◌+◌, ◌-◌, ◌<◌, ◌≤◌, length, get_or, set, sym, ap, ◌∙◌, subst, arith, rules}
+use Rattle.std.proofs.Common.{◌≡◌, ℕ, ◌+◌, ◌-◌, ◌<◌, length, set, sym, subst, arith, rules}
 use Rattle.rack.proofs.Shifting.{Shifted, shifted_none, shifted_more, shifted_all}
 use Rattle.rack.proofs.shift.put_at.Goals as goal
 

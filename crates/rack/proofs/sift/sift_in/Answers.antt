@@ -1,4 +1,4 @@
-use Rattle.std.proofs.Common.{◌≡◌, ℕ, ◌+◌, ◌<◌, ◌≤◌, length, take, set, sym, refl, ap, ◌∙◌, subst, arith, rules}
+use Rattle.std.proofs.Common.{◌≡◌, ℕ, ◌+◌, ◌<◌, length, take, set, sym, refl, ap, ◌∙◌, subst, arith, rules}
 use Rattle.rack.specs.Entries.{sifted}
 use Rattle.rack.proofs.Sifting.{Sifting, sifted_drops, sifted_keeps, sifting_drops, sifting_keeps}
 use Rattle.rack.proofs.sift.sift_in.Goals as goal

@@ -1,4 +1,4 @@
-use Rattle.std.proofs.Common.{ℕ, ◌+◌, ◌*◌, ◌≤◌, ◌∙◌, arith, rules}
+use Rattle.std.proofs.Common.{◌∙◌, arith, rules}
 use Rattle.book.proofs.Rings.{churn_step, churn_fails, churn_none, refused, allowed}
 use Rattle.book.proofs.book.LimitBook.allows.Goals as goal
 

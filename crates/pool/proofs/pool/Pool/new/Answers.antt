@@ -1,4 +1,4 @@
-use Rattle.pool.proofs.Messages.{pooled_none, none_whole, none_wanted}
+use Rattle.pool.proofs.Messages.{pooled_none}
 use Rattle.pool.proofs.pool.Pool.new.Goals as goal
 
 pub returns : goal.returns

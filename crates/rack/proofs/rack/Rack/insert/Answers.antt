@@ -1,4 +1,4 @@
-use Rattle.std.proofs.Common.{◌≡◌, ℕ, ◌<◌, true, false, cond, not, ◌&&◌, eqb, ltb, is_some, Some, None, sym, refl, ap, ◌∙◌, arith}
+use Rattle.std.proofs.Common.{◌≡◌, ℕ, ◌<◌, true, false, cond, eqb, is_some, Some, sym, refl, ap, ◌∙◌, arith}
 use Rattle.std.proofs.lemmas.Bool.{and_left, and_from, not_from_true, not_from_false, lt-ltb, cond-true, cond-false}
 use Rattle.carrier.specs.Counts.{copies}
 use Rattle.carrier.proofs.Copies.{none_of}

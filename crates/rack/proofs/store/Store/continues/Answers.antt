@@ -1,4 +1,4 @@
-use Rattle.std.proofs.Common.{◌-◌, ◌<◌, ⊎_elim, arith}
+use Rattle.std.proofs.Common.{⊎_elim, arith}
 use Rattle.std.proofs.lemmas.Bool.{leb-true, cases_eq}
 use Rattle.rack.proofs.Keeping.{continued, continued_none}
 use Rattle.rack.proofs.store.Store.continues.Goals as goal

@@ -1,8 +1,8 @@
-use Rattle.std.proofs.Common.{ℕ, ◌%◌, length, Some, sym, ap, ◌∙◌, arith}
-use Rattle.rack.specs.Entries.{held_under, lives, keyed, sifted}
+use Rattle.std.proofs.Common.{ℕ, ◌%◌, Some, sym, ap, ◌∙◌, arith}
+use Rattle.rack.specs.Entries.{held_under, lives}
 use Rattle.rack.specs.Stores.{kept}
 use Rattle.rack.proofs.Searching.{in_use}
-use Rattle.rack.proofs.Sifting.{sifted_held, sifted_lives, trimmed_all, keyed_lives, squeezed_le}
+use Rattle.rack.proofs.Sifting.{sifted_held, trimmed_all, keyed_lives, squeezed_le}
 use Rattle.rack.proofs.store.Store.make_way.Goals as goal
 
 pub returns-then-crowded : goal.returns-then-crowded

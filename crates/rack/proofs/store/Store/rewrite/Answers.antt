@@ -1,7 +1,6 @@
-use Rattle.std.proofs.Common.{ℕ, ◌+◌, ◌-◌, ◌<◌, refl, ap, ◌∙◌, arith, length-set, rules}
+use Rattle.std.proofs.Common.{ℕ, ◌+◌, ◌-◌, ◌<◌, refl, ap, arith, length-set, rules}
 use Rattle.rack.specs.Stores.{size}
 use Rattle.rack.specs.Entries.{dead}
-use Rattle.std.proofs.lemmas.List.Sums.{prefix_len-le-length}
 use Rattle.rack.proofs.Searching.{place_within}
 use Rattle.rack.proofs.Keeping.{rewritten_some, rewritten}
 use Rattle.rack.proofs.store.Store.rewrite.Goals as goal

@@ -1,9 +1,9 @@
-use Rattle.std.proofs.Common.{◌≡◌, ℕ, ◌+◌, ◌<◌, ◌≤◌, true, false, is_some, Some, sym, refl, ap, ◌∙◌, subst, arith}
+use Rattle.std.proofs.Common.{◌≡◌, ◌<◌, true, false, is_some, Some, sym, refl, ap, ◌∙◌, subst, arith}
 use Rattle.std.proofs.lemmas.Bool.{and_from, not_from_false, lt-ltb, cond-true}
-use Rattle.stations.specs.Members.{member, how_many}
+use Rattle.stations.specs.Members.{member}
 use Rattle.stations.proofs.Counting.{how_many_some}
 use Rattle.stations.proofs.Words.{member_past}
-use Rattle.carrier.specs.Counts.{by_copy, receivers, copies, under}
+use Rattle.carrier.specs.Counts.{by_copy, receivers, copies}
 use Rattle.carrier.specs.Waits.{at}
 use Rattle.carrier.proofs.Asking.{one_load, one_fresh}
 use Rattle.carrier.proofs.Posting.{part, part_none, part_skip, part_more, part_all, part_gone, part_room}

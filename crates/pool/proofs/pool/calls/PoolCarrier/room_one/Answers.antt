@@ -1,6 +1,6 @@
-use Rattle.std.proofs.Common.{◌+◌, ◌<◌, ◌≤◌, sym, refl, ◌∙◌, ⊎_elim, arith}
+use Rattle.std.proofs.Common.{sym, refl, ◌∙◌, ⊎_elim, arith}
 use Rattle.std.proofs.lemmas.Bool.{eqb-true, eqb-false, cases_eq}
-use Rattle.carrier.specs.Counts.{by_message, receivers, messages}
+use Rattle.carrier.specs.Counts.{by_message, receivers}
 use Rattle.carrier.proofs.Asking.{silent_one, one_full, one_asked}
 use Rattle.rack.specs.Racks.{capacity}
 use Rattle.pool.specs.Bounds.{pooled_bound}

@@ -1,4 +1,4 @@
-use Rattle.std.proofs.Common.{Some, None, sym, refl, ap, ◌∙◌}
+use Rattle.std.proofs.Common.{None, sym, refl, ap, ◌∙◌}
 use Rattle.carrier.specs.Counts.{by_message, fits}
 use Rattle.carrier.specs.Waits.{found}
 use Rattle.carrier.proofs.Copies.{at_same}

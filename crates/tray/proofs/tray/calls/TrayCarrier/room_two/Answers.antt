@@ -1,6 +1,6 @@
-use Rattle.std.proofs.Common.{◌+◌, ◌≤◌, sym, refl, ◌∙◌, arith}
+use Rattle.std.proofs.Common.{sym, refl, ◌∙◌, arith}
 use Rattle.std.proofs.lemmas.Bool.{eqb-true, eqb-false, not-true, not-false}
-use Rattle.carrier.specs.Counts.{by_copy, receivers, copies}
+use Rattle.carrier.specs.Counts.{by_copy, receivers}
 use Rattle.carrier.proofs.Asking.{silent_first, silent_second, two_full, two_same, two_first_waits, two_asked}
 use Rattle.rack.specs.Racks.{stored, capacity}
 use Rattle.tray.proofs.tray.calls.TrayCarrier.room_two.Goals as goal
