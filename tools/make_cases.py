@@ -1,5 +1,5 @@
 # Writes the cases of crates/trials and the files of examples/, and beside them what oracle.py says; run it from the repository's root.
-# With a number it writes no file: it judges so many spoiled files with target/bin/ccreg, and counts where program and oracle agree.
+# With a number it writes no file: it judges so many spoiled files with crates/ccreg/out/ccreg, and counts where program and oracle agree.
 import random
 import struct
 import subprocess
@@ -247,7 +247,7 @@ def compare(count):
     rng, agreed, accepted = random.Random(2), 0, 0
     for _ in range(count):
         file = spoiled(rng)
-        said = subprocess.run(["target/bin/ccreg"], input=file, stdout=subprocess.PIPE, check=True).stdout.decode()
+        said = subprocess.run(["crates/ccreg/out/ccreg"], input=file, stdout=subprocess.PIPE, check=True).stdout.decode()
         expected = report(file)
         agreed += said == expected
         accepted += expected.startswith("records")

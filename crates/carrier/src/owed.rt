@@ -1,6 +1,6 @@
 // The debt of a copy that was taken: settled only by applying the copy to its station.
-ghost use Rattle.std.specs.Prelude.{◌≡◌, true, length, if◌then◌else◌, Ok, Err, nat_lt, slice_index_or, slice_set};
-ghost use Rattle.carrier.specs.Owing.{owing};
+ghost use Rattle.std.specs.Prelude.{◌≡◌, IsTrue, true, length, if◌then◌else◌, Ok, Err, nat_lt, slice_index_or, slice_set};
+ghost use Rattle.carrier.specs.Owing.{owed_to, owing};
 ghost use Rattle.carrier.specs.Waits.{without};
 ghost use Rattle.carrier.specs.declared.message.Held.{Held};
 
@@ -18,16 +18,19 @@ pub struct Key {
 pub struct Owed<B: Copy> {
     station: u8,
     held: Held<B>,
+    // never set: applying a debt takes it apart, and nothing makes one that is settled
+    settled: bool,
 }
 
 impl<B: Copy> Drop for Owed<B> {
-    // Nobody may let a debt go.
+    // Nobody may let a debt go, since none is ever settled.
     fn drop(self)
-        requires { ⊥ }
+        requires { IsTrue self.settled }
     {
         let Owed {
             station: _,
             held: _,
+            settled: _,
         } = self;
     }
 }
@@ -47,6 +50,17 @@ pub trait Receiver<B: Copy> {
         ensures after { self.new ≡ turned self.old held };
 }
 
+// A debt that is not settled.
+fn owe<B: Copy>(station: u8, held: Held<B>) -> Owed<B>
+    ensures { result ≡ owed_to station held }
+{
+    Owed {
+        station,
+        held,
+        settled: false,
+    }
+}
+
 // Takes the copy out of the carrier: its station is owed it.
 pub fn take_owed<B: Copy, C: Carrier<B>>(
     carrier: &mut C,
@@ -58,7 +72,7 @@ pub fn take_owed<B: Copy, C: Carrier<B>>(
     ensures same { C.room carrier.new ≡ C.room carrier.old }
 {
     match carrier.take(&Key { made: true }, number, station) {
-        Ok(held) => Ok(Owed { station, held }),
+        Ok(held) => Ok(owe(station, held)),
         Err(fault) => Err(fault),
     }
 }
@@ -69,12 +83,20 @@ impl<B: Copy> Owed<B> {
         ensures value { (d : R) → result ≡ (if nat_lt self.station (length stations.old) then Ok (R.answer (slice_index_or stations.old self.station d) self.held) else Err self) }
         ensures after { (d : R) → stations.new ≡ slice_set stations.old self.station (R.turned (slice_index_or stations.old self.station d) self.held) }
     {
-        let Owed { station, held } = self;
+        let Owed {
+            station,
+            held,
+            settled,
+        } = self;
         let at = station as usize;
         if at < stations.len() {
             Ok(stations[at].receive(held))
         } else {
-            Err(Owed { station, held })
+            Err(Owed {
+                station,
+                held,
+                settled,
+            })
         }
     }
 }

@@ -1,7 +1,7 @@
 use Rattle.std.proofs.Common.{◌≡◌, ℕ, ◌<◌, ◌≤◌, cond, not, ltb, List, [], ◌∷◌, length, get_or, is_some, Some, None, Ok, Err, Option, Result, sym, refl, ap, ◌∙◌, arith}
 use Rattle.std.proofs.lemmas.List.{set_past}
 use Rattle.std.proofs.lemmas.Bool.{lt-ltb, le-ltb, cond-true, cond-false}
-use Rattle.carrier.specs.Owing.{owing, answered, turned_at}
+use Rattle.carrier.specs.Owing.{owed_to, owing, answered, turned_at}
 use Rattle.carrier.proofs.Copies.{none_of, at_same}
 use Rattle.carrier.specs.declared.message.Held.{Held}
 use Rattle.carrier.specs.declared.owed.Owed.{Owed}
@@ -43,7 +43,7 @@ one_of (r ∷ rs) q h = r
 -- the debt is to the station that was asked for
 debtor : {X : Type 0} (q : ℕ) (w : Option (Held X)) (o : Owed X) → ◌≡◌ {A = Result (Owed X) CarrierFault} (Ok o) (owing q w) → o.station ≡ q
 debtor {X} q (Some x) o e =
-    let same : ◌≡◌ {A = Owed X} o (record { station = q; held = x }) = cc in
+    let same : ◌≡◌ {A = Owed X} o (owed_to q x) = cc in
     ap (λ (z : Owed X). z.station) same
 debtor q None o e = cc
 
@@ -58,4 +58,4 @@ pub drop-requires : goal.drop-requires
 drop-requires g c =
     let here = debtor c.args.station _ c.in-Ok.owed c.in-Ok.ensures.value in
     let d = one_of c.args.stations.now c.args.station c.if-station-stations.false in
-    never c.in-Ok.owed c.in-Err.field-0 (length c.args.stations.now) _ c.apply.result (omega (arith, here, c.if-station-stations.false)) c.in-Err.is (c.apply.ensures.value d)
+    absurd (never c.in-Ok.owed c.in-Err.field-0 (length c.args.stations.now) _ c.apply.result (omega (arith, here, c.if-station-stations.false)) c.in-Err.is (c.apply.ensures.value d))
