@@ -5,9 +5,9 @@ use Rattle.carrier.specs.declared.fault.CarrierFault.TheVariants.{NotWaiting}
 use Rattle.carrier.specs.declared.message.Held.{Held}
 use Rattle.carrier.specs.declared.owed.Owed.{Owed}
 
--- a debt that is not settled
+-- a debt that is not forgiven
 abbrev pub owed_to : {X : Type 0} → ℕ → Held X → Owed X
-owed_to q x = record { station = q; held = x; settled = false }
+owed_to q x = record { station = q; held = x; forgiven = false }
 
 -- the debt that taking a copy makes
 abbrev pub owing : {X : Type 0} → ℕ → Option (Held X) → Result (Owed X) CarrierFault

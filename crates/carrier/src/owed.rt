@@ -1,4 +1,4 @@
-// The debt of a copy that was taken: settled only by applying the copy to its station.
+// The debt of a copy that was taken: it ends only where the copy is applied to its station.
 ghost use Rattle.std.specs.Prelude.{◌≡◌, IsTrue, true, length, if◌then◌else◌, Ok, Err, nat_lt, slice_index_or, slice_set};
 ghost use Rattle.carrier.specs.Owing.{owed_to, owing};
 ghost use Rattle.carrier.specs.Waits.{without};
@@ -18,19 +18,19 @@ pub struct Key {
 pub struct Owed<B: Copy> {
     station: u8,
     held: Held<B>,
-    // never set: applying a debt takes it apart, and nothing makes one that is settled
-    settled: bool,
+    // never set: applying a debt takes it apart, and nothing makes one that is forgiven
+    forgiven: bool,
 }
 
 impl<B: Copy> Drop for Owed<B> {
-    // Nobody may let a debt go, since none is ever settled.
+    // Nobody may let a debt go, since none is ever forgiven.
     fn drop(self)
-        requires { IsTrue self.settled }
+        requires { IsTrue self.forgiven }
     {
         let Owed {
             station: _,
             held: _,
-            settled: _,
+            forgiven: _,
         } = self;
     }
 }
@@ -50,14 +50,14 @@ pub trait Receiver<B: Copy> {
         ensures after { self.new ≡ turned self.old held };
 }
 
-// A debt that is not settled.
+// A debt that is not forgiven.
 fn owe<B: Copy>(station: u8, held: Held<B>) -> Owed<B>
     ensures { result ≡ owed_to station held }
 {
     Owed {
         station,
         held,
-        settled: false,
+        forgiven: false,
     }
 }
 
@@ -86,7 +86,7 @@ impl<B: Copy> Owed<B> {
         let Owed {
             station,
             held,
-            settled,
+            forgiven,
         } = self;
         let at = station as usize;
         if at < stations.len() {
@@ -95,7 +95,7 @@ impl<B: Copy> Owed<B> {
             Err(Owed {
                 station,
                 held,
-                settled,
+                forgiven,
             })
         }
     }

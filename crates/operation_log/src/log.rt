@@ -139,7 +139,7 @@ impl<'a, R: Copy> OperationLog<'a, R> {
         put_at(self.entries, place, entry);
     }
 
-    // The place of p's latest entry, if it has one.
+    // The place of p's latest entry; 0 where it has none.
     fn latest_place(&self, p: u8) -> usize
         ensures { result ≡ slice_index self.now.latest p }
     {

@@ -11,7 +11,7 @@ use Rattle.runs.proofs.Positions.{Run, state, state_start, clock, D, Accepted, O
 use Rattle.runs.proofs.Accepted.{ticks, enters, leaves, crashes, begins, hears}
 use Rattle.runs.proofs.Bounds.{N}
 use Rattle.runs.proofs.Clocks.{ClockStep, rises, rests, clock_step, clock_start}
-use Rattle.runs.proofs.Marks.{mark, lives_at_mark, lives_from_mark}
+use Rattle.runs.proofs.Marks.{mark, lives_at_mark, lives_from_mark, mark_zero}
 use Rattle.runs.proofs.Movement.{is_move, moves, En, Lv, moves_between, same_lives, life_stays, enter_moves, leave_moves, MoveStep, moves_one, moves_none, move_step}
 
 length_of_take : {A : Type 0} (k : ℕ) (xs : List A) → length (take k xs) ≡ min k (length xs)
@@ -164,3 +164,7 @@ module _ {R : Type 0} (z : Run R) where
         | inl over ↦ omega (arith, moves_limited t b over k)
         | inr runs ↦ omega (arith, (same_lives z (mark z t) b (lives_from_mark z t b runs l)).0)
       ]
+
+  -- the same from the start
+  pub churn_start : (b : ℕ) → clock z b ≤ D z → 100 * (En z 0 b + Lv z 0 b) ≤ z.setup.choice.alpha * N z 0
+  churn_start b k = subst (λ a. 100 * (En z a b + Lv z a b) ≤ z.setup.choice.alpha * N z a) (mark_zero z) (churn 0 b (omega (arith, mark_zero z)) (omega arith))

@@ -39,7 +39,7 @@ module _ {R : Type 0} (c : Choice) (p : ℕ) (x : Station R Set) where
   answer_bounds k v f e j = grind (arith, nat_tests)
 
 module _ {R : Type 0} (z : Run R) where
-  -- p set its bound at step `set_at`, at the answer that q, who had joined, gave at `given-at`
+  -- p set its bound at step `set_at`, at the answer that q, who had joined, gave at `given_at`
   pub record BoundSet (i p bound : ℕ) : Type 0 where
     pub q : ℕ
     pub given_at : ℕ

@@ -1,7 +1,7 @@
 -- What a step does to one station: five cases, an induction over stations, and what never goes back along a run.
 -- Rests on `Accepted` (acceptance) and `Growing` (what never goes back at one station).
 use Rattle.std.proofs.Common.{◌≡◌, ℕ, zero, suc, ◌<◌, ◌≤◌, Bool, true, false, cond, ltb, ◌⊎◌, Some, sym, refl, ap, ◌∙◌, subst, inl, inr, arith}
-use Rattle.std.proofs.lemmas.Bool.{both_ways, and_parts, and_from, not-true, not_from_false, cases_eq, cases_Bool}
+use Rattle.std.proofs.lemmas.Bool.{both_ways, and_parts, and_from, not-true, not_from_false, cases_eq, cases_Bool, cases_order}
 use Rattle.std.proofs.lemmas.Bool.Decides.{nat_tests}
 use Rattle.stations.specs.Members.{put}
 use Rattle.stations.proofs.Counting.{put_here, put_other}
@@ -193,3 +193,10 @@ module _ {R : Type 0} (z : Run R) where
       by k f t (fades l c (crashing a d b) e) = absurd (both_ways _ f (ap has_left (sym d) ∙ sym (ap (λ x. has_left x.life) e) ∙ t))
       by k f t (begins_one w a e) = absurd (both_ways _ f (sym (ap (λ x. has_left x.life) e) ∙ t))
       by k f t (hears_one n c a w e) = absurd (both_ways _ f (ap has_left (sym (hear_life z.setup.choice q c.content (station z k q))) ∙ sym (ap (λ x. has_left x.life) e) ∙ t))
+
+  -- a number is entered once
+  pub enters_once : (q i j : ℕ) → Accepted z i (step.Enter q) → Accepted z j (step.Enter q) → i ≡ j
+  enters_once q i j a b = elim (cases_order i j) [ inl k ↦ k | inr k ↦ elim k [ inl l ↦ absurd (first i j a b l) | inr l ↦ absurd (first j i b a l) ] ]
+    where
+      first : (i j : ℕ) → Accepted z i (step.Enter q) → Accepted z j (step.Enter q) → i < j → ⊥
+      first i j a b l = both_ways _ (enters z j q b).unused ((grown q (suc i) j l).used (entered_used q i a))

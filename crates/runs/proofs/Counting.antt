@@ -1,6 +1,6 @@
 -- Counting stations that pass a test, beyond what the crates of stations and of counting have.
--- Rests on the definition of `how-many` and on its first laws.
-use Rattle.std.proofs.Common.{◌≡◌, ℕ, zero, suc, ◌+◌, ◌<◌, ◌≤◌, min, Bool, true, false, cond, ltb, sym, ap, ◌∙◌, inl, inr, arith}
+-- Rests on the definition of `how_many` and on its first laws.
+use Rattle.std.proofs.Common.{◌≡◌, ℕ, zero, suc, ◌+◌, ◌<◌, ◌≤◌, min, Bool, true, false, cond, ltb, sym, ap, ◌∙◌, inl, inr, arith, refl}
 use Rattle.std.proofs.lemmas.Bool.{cases_lt, cases_eq, cond-true, cond-false, lt-ltb, le-ltb}
 use Rattle.stations.specs.Members.{put, how_many}
 use Rattle.stations.proofs.Counting.{how_many_mono, how_many_same, how_many_split, put_other}
@@ -9,6 +9,13 @@ use Rattle.counting.proofs.Tests.{put_adds}
 -- a test as a number
 abbrev pub one_if : Bool → ℕ
 one_if b = cond b 1 0
+
+-- where two sums agree at each number, they agree in all
+pub how_many_balance : (f g h k : ℕ → Bool) (n : ℕ) → ((q : ℕ) → q < n → one_if (f q) + one_if (g q) ≡ one_if (h q) + one_if (k q))
+    → how_many f n + how_many g n ≡ how_many h n + how_many k n
+unfolding how_many
+how_many_balance f g h k zero e = refl
+how_many_balance f g h k (suc n) e = omega (arith, how_many_balance f g h k n (λ q l. e q (omega arith)), e n (omega arith))
 
 -- how many numbers are below k
 pub how_many_below : (k n : ℕ) → how_many (λ q. ltb q k) n ≡ min n k

@@ -28,6 +28,9 @@ gone_left l a b = grind arith
 pub left_gone : (l : Life) → has_left l ≡ true → is_present l ≡ false
 left_gone l a = grind arith
 
+pub left_used : (l : Life) → has_left l ≡ true → is_used l ≡ true
+left_used l a = grind arith
+
 pub present_used : (l : Life) → is_present l ≡ true → is_used l ≡ true
 present_used l a = grind arith
 

@@ -6,7 +6,7 @@ use Rattle.std.proofs.lemmas.Bool.Decides.{nat_tests}
 use Rattle.network.specs.declared.step.Step.{Step}
 use Rattle.network.specs.declared.step.Step.TheVariants as step
 use Rattle.runs.proofs.Positions.{Run, state, station, clock, Accepted, after_end, onward}
-use Rattle.runs.proofs.Clocks.{clock_start, clock_on, sooner, comes_by, enters_late, leaves_late}
+use Rattle.runs.proofs.Clocks.{clock_start, clock_on, sooner, comes_by, enters_late, leaves_late, ClockStep, rises, rests, clock_step}
 use Rattle.runs.proofs.Movement.{is_move, MoveStep, moves_one, moves_none, move_step}
 
 module _ {R : Type 0} (z : Run R) where
@@ -74,6 +74,14 @@ module _ {R : Type 0} (z : Run R) where
   pub mark_order : (s t j : ℕ) → s ≤ t → t < clock z j → mark s ≤ mark t
   mark_order zero t j l h = omega (arith, mark_zero)
   mark_order (suc s) t j l h = mark_not_before t (mark (suc s)) j (omega arith) h (omega (arith, mark_in_time (suc s)))
+
+  -- the step at a mark is the tick that ended it
+  pub mark_tick : (t j : ℕ) → 0 < t → t < clock z j → Accepted z (mark t) step.Tick
+  mark_tick t j p l = by (clock_step z (mark t))
+    where
+      by : ClockStep z (mark t) → Accepted z (mark t) step.Tick
+      by (rises a e) = a
+      by (rests e) = absurd (omega (arith, mark_not_before t (suc (mark t)) j p l (omega (arith, e, mark_in_time t))))
 
   -- in tick 0 nobody's life changes
   pub tick_zero : (b : ℕ) → clock z b ≡ 0 → (q : ℕ) → (station z b q).life ≡ (station z 0 q).life

@@ -1,6 +1,8 @@
 -- Who enters and who leaves: the moves between two positions are those who entered and those who left, and each accepted
 -- entry or departure is one move and no other step is. Rests on `Changes`.
-use Rattle.std.proofs.Common.{◌≡◌, ℕ, suc, ◌+◌, ◌<◌, ◌≤◌, Bool, true, false, ◌⊎◌, sym, refl, ap, ◌∙◌, inl, inr, arith}
+use Rattle.std.proofs.Common.{◌≡◌, ℕ, suc, ◌+◌, ◌<◌, ◌≤◌, Bool, true, false, ◌⊎◌, sym, refl, ap, ◌∙◌, inl, inr, arith, not, ◌&&◌}
+use Rattle.runs.proofs.Counting.{one_if, how_many_balance}
+use Rattle.network.specs.States.{present_set}
 use Rattle.std.proofs.lemmas.Bool.{both_ways, cases_eq}
 use Rattle.stations.specs.Members.{only, put, how_many}
 use Rattle.stations.proofs.Counting.{put_here, put_other, how_many_same, how_many_more}
@@ -46,6 +48,16 @@ module _ {R : Type 0} (z : Run R) where
 
   abbrev pub Lv : ℕ → ℕ → ℕ
   Lv a b = how_many (only (left_set b) (left_set a)) most_stations
+
+  -- the number present moves with those who enter and those who leave
+  pub balance : (a b : ℕ) → a ≤ b → N z b + Lv a b ≡ N z a + En a b
+  balance a b l =
+      how_many_balance (present_set (state z b)) _ (present_set (state z a)) _ most_stations
+      (λ q k. one (station z a q).life (station z b q).life (grown z q a b l).used (grown z q a b l).left)
+    where
+      one : (l m : Life) → (is_used l ≡ true → is_used m ≡ true) → (has_left l ≡ true → has_left m ≡ true)
+          → one_if (is_present m) + one_if (has_left m && not (has_left l)) ≡ one_if (is_present l) + one_if (is_used m && not (is_used l))
+      one l m u g = grind arith
 
   -- the moves between two positions are those who entered and those who left
   pub moves_between : (a b : ℕ) → a ≤ b → (En a b + Lv a b) + moves a ≡ moves b

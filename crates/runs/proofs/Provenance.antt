@@ -68,6 +68,22 @@ module _ {R : Type 0} (z : Run R) where
           }
       by (inr p) earlier = record { place = i; before = omega arith; posted = p; since = at_last }
 
+  -- where a delivered copy came from
+  pub heard_from : (i n q : ℕ) (a : Accepted z i (step.Deliver n q)) → Origin i n q (hears z i n q a).copy
+  heard_from i n q a = let h = hears z i n q a in origin i n q h.copy h.waits
+
+  -- a number is given at one step
+  pub one_origin : (n q r i j : ℕ) (c d : Copy R) → Posted z i n q c → waiting z (suc i) n q ≡ Some c → Posted z j n r d → waiting z (suc j) n r ≡ Some d → i ≡ j
+  one_origin n q r i j c d a x b y =
+      elim (cases_order i j) [
+        | inl e ↦ e
+        | inr s ↦
+            elim s [
+              | inl m ↦ absurd (omega (arith, numbered z (suc i) n q c x, next_on z (suc i) j m, b.number_low))
+              | inr m ↦ absurd (omega (arith, numbered z (suc j) n r d y, next_on z (suc j) i m, a.number_low))
+            ]
+      ]
+
   -- what is said at step i to q, who is active D ticks later, is delivered to q in between
   pub record Heard (i q : ℕ) (c : Copy R) (j : ℕ) : Type 0 where
     pub number : ℕ

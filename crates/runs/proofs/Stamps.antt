@@ -1,6 +1,6 @@
 -- Stamps are in a strict total order, taking an offer is a maximum in it, and a writer's next stamp is higher.
 -- Of stamps later files use only this. Rests on the definitions alone.
-use Rattle.std.proofs.Common.{◌≡◌, ℕ, Bool, true, false, cond, ◌⊎◌, Some, None, Option, refl, ap, ap₂, inl, inr, arith}
+use Rattle.std.proofs.Common.{◌≡◌, ℕ, Bool, true, false, cond, ◌⊎◌, Some, None, Option, refl, ap, ap₂, inl, inr, arith, ◌≤◌}
 use Rattle.std.proofs.lemmas.Bool.Decides.{nat_tests}
 use Rattle.network.specs.declared.register.Register.{Register}
 use Rattle.network.specs.declared.stamp.Stamp.{Stamp}
@@ -77,3 +77,8 @@ module _ {R : Type 0} (offer held : Register R) where
   pub newer_offer : UpTo offer.stamp (newer offer held).stamp
   unfolding newer
   newer_offer = grind (arith, up_to_itself)
+
+-- stamps that are not higher have no higher count
+pub count_up_to : (a b : Stamp) → UpTo a b → a.count ≤ b.count
+unfolding higher
+count_up_to a b h = grind (arith, nat_tests)
