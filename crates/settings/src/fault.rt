@@ -24,12 +24,12 @@ pub enum SettingsFault {
     MemorySize,
 }
 
-impl SettingsFault {
-    // What a caller is told of this fault.
-    pub fn refusal(&self) -> Refusal
-        ensures { result ≡ told self.now }
-    {
-        let number = match self {
+// What a caller is told of this fault.
+impl From<SettingsFault> for Refusal {
+    ghost from_gives = { λ fault r. r ≡ told fault };
+
+    fn from(fault: SettingsFault) -> Refusal {
+        let number = match fault {
             SettingsFault::Range => 10,
             SettingsFault::SurvivorsTooFew => 11,
             SettingsFault::JoinersUnheard => 12,
