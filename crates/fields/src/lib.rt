@@ -2,31 +2,18 @@
 #![tactic(auto)]
 
 ghost use Rattle.std.specs.Prelude.{◌≡◌, ◌<◌, ◌≤◌, length, drop, MatchOption};
-ghost use Rattle.fields.specs.Numbers.{two, four, signed_four, le2, le4, signed_le4};
 ghost use Rattle.fields.specs.Patches.{after_put, put_end};
 
-// The two-byte number in front, and what follows it; none where there are fewer bytes.
-pub fn split_u16(bytes: &[u8]) -> Option<(u16, &[u8])>
-    ensures { MatchOption result (length bytes.now < 2) (λ x. (2 ≤ length bytes.now) × (x.0 ≡ two bytes.now 0) × (x.1.now ≡ drop 2 bytes.now)) }
-{
-    let (head, rest) = bytes.split_first_chunk::<2>()?;
-    Some((u16::from_le_bytes(*head), rest))
-}
+mod field;
 
-// The four-byte number in front, and what follows it; none where there are fewer bytes.
-pub fn split_u32(bytes: &[u8]) -> Option<(u32, &[u8])>
-    ensures { MatchOption result (length bytes.now < 4) (λ x. (4 ≤ length bytes.now) × (x.0 ≡ four bytes.now 0) × (x.1.now ≡ drop 4 bytes.now)) }
-{
-    let (head, rest) = bytes.split_first_chunk::<4>()?;
-    Some((u32::from_le_bytes(*head), rest))
-}
+pub use field::Field;
 
-// The signed four-byte number in front, and what follows it; none where there are fewer bytes.
-pub fn split_i32(bytes: &[u8]) -> Option<(i32, &[u8])>
-    ensures { MatchOption result (length bytes.now < 4) (λ x. (4 ≤ length bytes.now) × (x.0 ≡ signed_four bytes.now 0) × (x.1.now ≡ drop 4 bytes.now)) }
+// The number in front, and what follows it; none where there are fewer bytes.
+pub fn split<T: Field<N>, const N: usize>(bytes: &[u8]) -> Option<(T, &[u8])>
+    ensures { MatchOption result (length bytes.now < N) (λ x. (N ≤ length bytes.now) × (x.0 ≡ T.front bytes.now) × (x.1.now ≡ drop N bytes.now)) }
 {
-    let (head, rest) = bytes.split_first_chunk::<4>()?;
-    Some((i32::from_le_bytes(*head), rest))
+    let (head, rest) = bytes.split_first_chunk::<N>()?;
+    Some((T::read(head), rest))
 }
 
 // Writes bytes into the buffer from an offset on, and answers the offset after them.
@@ -35,34 +22,18 @@ pub fn put_bytes(buffer: &mut [u8], at: usize, bytes: &[u8]) -> Option<usize>
     ensures value { result ≡ put_end at bytes.now buffer.old }
     ensures after { buffer.new ≡ after_put at bytes.now buffer.old }
 {
-    if at > buffer.len() || bytes.len() > buffer.len() - at {
+    let end = at.checked_add(bytes.len())?;
+    if end > buffer.len() {
         return None;
     }
-    let end = at + bytes.len();
     buffer[at..end].copy_from_slice(bytes);
     Some(end)
 }
 
-// A two-byte number, put as `put_bytes` puts its bytes.
-pub fn put_u16(buffer: &mut [u8], at: usize, x: u16) -> Option<usize>
-    ensures value { result ≡ put_end at (le2 x) buffer.old }
-    ensures after { buffer.new ≡ after_put at (le2 x) buffer.old }
+// A number, put as `put_bytes` puts its bytes.
+pub fn put<T: Field<N>, const N: usize>(buffer: &mut [u8], at: usize, x: T) -> Option<usize>
+    ensures value { result ≡ put_end at (T.spelled x) buffer.old }
+    ensures after { buffer.new ≡ after_put at (T.spelled x) buffer.old }
 {
-    put_bytes(buffer, at, &u16::to_le_bytes(x))
-}
-
-// A four-byte number, put as `put_bytes` puts its bytes.
-pub fn put_u32(buffer: &mut [u8], at: usize, x: u32) -> Option<usize>
-    ensures value { result ≡ put_end at (le4 x) buffer.old }
-    ensures after { buffer.new ≡ after_put at (le4 x) buffer.old }
-{
-    put_bytes(buffer, at, &u32::to_le_bytes(x))
-}
-
-// A signed four-byte number, put as `put_bytes` puts its bytes.
-pub fn put_i32(buffer: &mut [u8], at: usize, x: i32) -> Option<usize>
-    ensures value { result ≡ put_end at (signed_le4 x) buffer.old }
-    ensures after { buffer.new ≡ after_put at (signed_le4 x) buffer.old }
-{
-    put_bytes(buffer, at, &i32::to_le_bytes(x))
+    put_bytes(buffer, at, &x.spell())
 }
