@@ -1,7 +1,11 @@
 -- Bytes that are written into a buffer: their length, what lies before and after them, and one write after another.
-use Rattle.std.proofs.Common.{◌≡◌, ℕ, ◌+◌, ◌≤◌, List, ◌++◌, length, take, drop, sym, ap, ◌∙◌, ap₂, append_assoc, add_assoc, arith, length-append}
+use Rattle.std.proofs.Common.{◌≡◌, ℕ, ◌+◌, ◌≤◌, List, ◌++◌, length, take, drop, sym, ap, ◌∙◌, ap₂, append_assoc, add_assoc, arith, length-append, length-drop, length-take}
 use Rattle.std.proofs.lemmas.List.{drop-drop, take_at, drop_at, length-take-le}
 use Rattle.fields.specs.Patches.{patched}
+
+-- a write keeps the buffer's length
+pub length_patched : (at : ℕ) (bytes buffer : List ℕ) → at + length bytes ≤ length buffer → length (patched at bytes buffer) ≡ length buffer
+length_patched at bytes buffer h = simp (length-append, length-take, length-drop) (omega arith)
 
 -- the buffer up to the end of a write
 pub take_patched : (at : ℕ) (bytes buffer : List ℕ) → at ≤ length buffer → take (at + length bytes) (patched at bytes buffer) ≡ take at buffer ++ bytes

@@ -2,6 +2,7 @@
 use Rattle.std.proofs.Common.{◌≡◌, ℕ, ◌+◌, ◌*◌, ◌/◌, ◌%◌, ◌^◌, ◌<◌, ◌≤◌, List, [], ◌∷◌, ◌++◌, length, take, drop, ℤ, sym, refl, ap, ◌∙◌, arith, to_z-of_z, w32, SFits, to_z, of_z}
 use native.Mathlib.Nat.{div-div-eq-div-mul}
 use mir.Facts.{Fits-of_z, of_z-to_z}
+use Rattle.std.proofs.Math.Facts.{sfits_to_z}
 use Rattle.std.specs.List.{AllByRecursion}
 use Rattle.fields.specs.Numbers.{two, four, signed_four, le2, le4, signed_le4}
 
@@ -20,6 +21,19 @@ four_first (a ∷ b ∷ c ∷ d ∷ r) = refl
 
 pub signed_first : (bs : List ℕ) → signed_four (take 4 bs) 0 ≡ signed_four bs 0
 signed_first bs = ap (to_z w32) (four_first bs)
+
+byte : (x : ℕ) → x % 256 < 256
+byte x = omega arith
+
+-- a spelling is of bytes
+pub all_le2 : (x : ℕ) → AllByRecursion (λ b. b < 256) (le2 x)
+all_le2 x = (byte x, (byte (x / 256), tt))
+
+pub all_le4 : (x : ℕ) → AllByRecursion (λ b. b < 256) (le4 x)
+all_le4 x = (byte x, (byte (x / 256), (byte (x / 65536), (byte (x / 16777216), tt))))
+
+pub all_signed_le4 : (z : ℤ) → AllByRecursion (λ b. b < 256) (signed_le4 z)
+all_signed_le4 z = all_le4 (of_z w32 z)
 
 -- what was spelled is read back, whatever follows it
 pub two_le2_more : (x : ℕ) (more : List ℕ) → x < 2 ^ 16 → two (le2 x ++ more) 0 ≡ x
@@ -55,12 +69,21 @@ le4_four a b c d ha hb hc hd =
     let e3 : x / 16777216 % 256 ≡ d = rw d3 (omega arith) in
     cc
 
-four_below : (bs : List ℕ) → AllByRecursion (λ b. b < 256) bs → four bs 0 < 2 ^ 32
+-- bytes say a number that fits
+pub two_below : (bs : List ℕ) → AllByRecursion (λ b. b < 256) bs → two bs 0 < 2 ^ 16
+two_below [] k = omega arith
+two_below (a ∷ []) k = omega (arith, k.0)
+two_below (a ∷ b ∷ r) k = omega (arith, k.0, k.1.0)
+
+pub four_below : (bs : List ℕ) → AllByRecursion (λ b. b < 256) bs → four bs 0 < 2 ^ 32
 four_below [] k = omega arith
 four_below (a ∷ []) k = omega (arith, k.0)
 four_below (a ∷ b ∷ []) k = omega (arith, k.0, k.1.0)
 four_below (a ∷ b ∷ c ∷ []) k = omega (arith, k.0, k.1.0, k.1.1.0)
 four_below (a ∷ b ∷ c ∷ d ∷ r) k = omega (arith, k.0, k.1.0, k.1.1.0, k.1.1.1.0)
+
+pub signed_below : (bs : List ℕ) → AllByRecursion (λ b. b < 256) bs → SFits w32 (signed_four bs 0)
+signed_below bs k = sfits_to_z (record { fits = four_below bs k })
 
 -- bytes are the spelling of the number in front, and what follows it
 pub two_front : (bs : List ℕ) → AllByRecursion (λ b. b < 256) bs → 2 ≤ length bs → bs ≡ le2 (two bs 0) ++ drop 2 bs

@@ -4,7 +4,7 @@ ghost use Rattle.std.specs.Int.{w32};
 ghost use Rattle.std.specs.List.{AllByRecursion};
 ghost use Rattle.std.proofs.Common.{SFits, rules};
 ghost use Rattle.fields.specs.Numbers.{two, four, signed_four, le2, le4, signed_le4};
-ghost use Rattle.fields.specs.Laws.{two_le2_more, four_le4_more, signed_back_more, two_front, four_front, signed_front, two_first, four_first, signed_first};
+ghost use Rattle.fields.specs.Laws.{all_le2, all_le4, all_signed_le4, two_below, four_below, signed_below, two_le2_more, four_le4_more, signed_back_more, two_front, four_front, signed_front, two_first, four_first, signed_first};
 
 // A number that takes N bytes.
 pub trait Field<const N: usize> {
@@ -34,6 +34,12 @@ pub trait Field<const N: usize> {
     // each number takes N bytes
     ghost length_spelled: { (x : Self) → length (spelled x) ≡ N };
 
+    // they are bytes
+    ghost bytes_spelled: { (x : Self) → AllByRecursion (λ b. b < 256) (spelled x) };
+
+    // bytes say a number that fits
+    ghost front_fits: { (bytes : List ℕ) → AllByRecursion (λ b. b < 256) bytes → fits (front bytes) };
+
     // what was spelled is read back, whatever follows it
     ghost read_back: { (x : Self) (more : List ℕ) → fits x → front (spelled x ++ more) ≡ x };
 
@@ -53,6 +59,10 @@ impl Field<2> for u16 {
     ghost front_only = { two_first };
 
     ghost length_spelled = { λ x. refl };
+
+    ghost bytes_spelled = { all_le2 };
+
+    ghost front_fits = { two_below };
 
     ghost read_back = { two_le2_more };
 
@@ -80,6 +90,10 @@ impl Field<4> for u32 {
 
     ghost length_spelled = { λ x. refl };
 
+    ghost bytes_spelled = { all_le4 };
+
+    ghost front_fits = { four_below };
+
     ghost read_back = { four_le4_more };
 
     ghost one_spelling = { four_front };
@@ -105,6 +119,10 @@ impl Field<4> for i32 {
     ghost front_only = { signed_first };
 
     ghost length_spelled = { λ x. refl };
+
+    ghost bytes_spelled = { all_signed_le4 };
+
+    ghost front_fits = { signed_below };
 
     ghost read_back = { signed_back_more };
 
