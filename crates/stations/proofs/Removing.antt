@@ -5,8 +5,8 @@ use lib.Bits.{bit_and}
 use Rattle.std.proofs.lemmas.Bool.{ne_eqb, cond-true, cond-false, cases_eq, cases_lt, cases_Bool, eqb-true}
 use Rattle.stations.specs.declared.Stations.{Stations}
 use Rattle.stations.specs.Members.{member, put, word_without, removed}
-use Rattle.stations.proofs.Sets.{same_words, same_members, four_words, four_each}
-use Rattle.stations.proofs.Words.{member_masked, member_past}
+use Rattle.stations.proofs.Sets.{same_words, same_members, four_words}
+use Rattle.stations.proofs.Words.{four_each, member_masked, member_past}
 
 each_without : (s : Stations) (p j : ℕ) → j < 4
     → get_or (removed s p).words j 0 ≡ cond (eqb j (p / 64)) (bit_and (get_or s.words (p / 64) 0) ((2 ^ 64 - 1) - (1 * 2 ^ (p % 64)) % 2 ^ 64)) (get_or s.words j 0)

@@ -1,5 +1,5 @@
 -- A set of stations is known by its members: words of 64 bits, by their bits.
-use Rattle.std.proofs.Common.{◌≡◌, ℕ, zero, suc, ◌+◌, ◌*◌, ◌/◌, ◌%◌, ◌^◌, ◌<◌, ◌≤◌, Bool, true, false, cond, ◌&&◌, ◌||◌, eqb, ltb, List, [], ◌∷◌, length, get_or, set, sym, refl, ap, ◌∙◌, ⊎_elim, mod-eq_of_lt, add_comm, arith}
+use Rattle.std.proofs.Common.{◌≡◌, ℕ, zero, suc, ◌+◌, ◌*◌, ◌/◌, ◌%◌, ◌^◌, ◌<◌, ◌≤◌, Bool, true, false, cond, ◌&&◌, ◌||◌, eqb, ltb, List, [], ◌∷◌, length, get_or, set, sym, refl, ap, ap₂, ◌∙◌, map, ⊎_elim, mod-eq_of_lt, add_comm, arith}
 use mathlib.Core.Path.{fun_ext}
 use mathlib.Core.HLevel.{is_prop→PathP}
 use mathlib.Core.Bool.{Bool-set}
@@ -7,11 +7,12 @@ use lib.Bits.{or_shifted}
 use lib.Pow.{mod-pow-add}
 use Rattle.std.proofs.lemmas.Bool.{and_parts, and_from, lt-ltb, cases_eq, cases_lt}
 use Rattle.std.proofs.lemmas.Bool.Decides.{nat_tests}
+use Rattle.std.specs.List.{sum, zip}
 use Rattle.stations.specs.declared.Stations.{Stations}
-use Rattle.stations.specs.Members.{member, set_of}
+use Rattle.stations.specs.Members.{member, only, how_many, set_of}
 use Rattle.stations.specs.Words.{bit, bit_set, are_words, bits, bits_small, word_of, words_of, words_small}
 use Rattle.stations.proofs.Digits.{bit_small, set_or, set_zero, set_pow}
-use Rattle.stations.proofs.Words.{member_at, member_past}
+use Rattle.stations.proofs.Words.{four_each, member_at, member_past, only_words}
 
 pub words_length : (n : ℕ) (ws : List ℕ) → are_words n ws ≡ true → length ws ≡ n
 words_length zero [] h = refl
@@ -80,6 +81,15 @@ four_words (a ∷ b ∷ []) h = let z = words_length 4 (a ∷ b ∷ []) h in abs
 four_words (a ∷ b ∷ c ∷ []) h = let z = words_length 4 (a ∷ b ∷ c ∷ []) h in absurd (omega arith)
 four_words (a ∷ b ∷ c ∷ d ∷ e ∷ l) h = let z = words_length 4 (a ∷ b ∷ c ∷ d ∷ e ∷ l) h in absurd (omega arith)
 
+abbrev pub without_ones : ℕ × ℕ → ℕ
+without_ones p = how_many (only (bit_set p.0) (bit_set p.1)) 64
+
+-- the ones of each word under the mask of the other set add up to those that are only in the first
+pub counted_words : (s t : Stations) → sum (map without_ones (zip s.words t.words)) ≡ how_many (only (member s) (member t)) 256
+counted_words s t =
+    ap₂ (λ (xs ys : List ℕ). sum (map without_ones (zip xs ys))) (sym (four_words s.words s.whole)) (sym (four_words t.words t.whole))
+    ∙ omega (arith, only_words s t)
+
 word_back : (s : Stations) (j : ℕ) → j < 4 → word_of (member s) j ≡ get_or s.words j 0
 word_back s j l =
     bits_same (λ i. member s (64 * j + i)) (bit_set (get_or s.words j 0)) 64 (λ i k. member_at s (64 * j + i) j i (omega arith) (omega arith) (omega arith))
@@ -107,13 +117,6 @@ set_of_member s = same_words (set_of (member s)) s (words_back s)
 -- sets with the same members are equal
 pub same_members : (s t : Stations) → member s ≡ member t → s ≡ t
 same_members s t e = sym (set_of_member s) ∙ ap set_of e ∙ set_of_member t
-
-pub four_each : (f : ℕ → ℕ) (j : ℕ) → j < 4 → get_or (f 0 ∷ f 1 ∷ f 2 ∷ f 3 ∷ []) j 0 ≡ f j
-four_each f zero h = refl
-four_each f (suc zero) h = refl
-four_each f (suc (suc zero)) h = refl
-four_each f (suc (suc (suc zero))) h = refl
-four_each f (suc (suc (suc (suc j)))) h = absurd (omega arith)
 
 -- the members of the set of those that pass a test, where only stations pass
 pub member_set_of : (f : ℕ → Bool) → ((p : ℕ) → 256 ≤ p → f p ≡ false) → member (set_of f) ≡ f

@@ -23,17 +23,18 @@ guarded q b c h =
     (λ l. let e : ltb q 256 ≡ false = grind (arith, nat_tests) in grind (arith, nat_tests))
     (cases_lt q 256)
 
-zeros : (j i : ℕ) → j < 4 → bit_set (get_or (0 ∷ 0 ∷ 0 ∷ 0 ∷ []) j 0) i ≡ false
-zeros zero i h = set_zero i
-zeros (suc zero) i h = set_zero i
-zeros (suc (suc zero)) i h = set_zero i
-zeros (suc (suc (suc zero))) i h = set_zero i
-zeros (suc (suc (suc (suc j)))) i h = absurd (omega arith)
+-- the values of a function at the four places
+pub four_each : (f : ℕ → ℕ) (j : ℕ) → j < 4 → get_or (f 0 ∷ f 1 ∷ f 2 ∷ f 3 ∷ []) j 0 ≡ f j
+four_each f zero h = refl
+four_each f (suc zero) h = refl
+four_each f (suc (suc zero)) h = refl
+four_each f (suc (suc (suc zero))) h = refl
+four_each f (suc (suc (suc (suc j)))) h = absurd (omega arith)
 
 pub member_none : (s : Stations) → s.words ≡ 0 ∷ 0 ∷ 0 ∷ 0 ∷ [] → member s ≡ nobody
 unfolding member
 member_none s e =
-    fun_ext (λ q. guarded q _ false (λ h. ap (λ l. bit_set (get_or l (q / 64) 0) (q % 64)) e ∙ zeros (q / 64) (q % 64) (omega arith)) ∙ grind (arith, nat_tests))
+    fun_ext (λ q. guarded q _ false (λ h. ap (λ l. bit_set (get_or l (q / 64) 0) (q % 64)) e ∙ ap (λ x. bit_set x (q % 64)) (four_each (λ _. 0) (q / 64) (omega arith)) ∙ set_zero (q % 64)) ∙ grind (arith, nat_tests))
 
 -- one word changed, where its new bits are known
 changed : (l ws : List ℕ) (p w : ℕ) (b : Bool) → ((j : ℕ) → j < 4 → get_or ws j 0 ≡ cond (eqb j (p / 64)) w (get_or l j 0))
@@ -102,20 +103,13 @@ spread q a b = grind (arith, nat_tests)
 abbrev or_at : Stations → Stations → ℕ → ℕ
 or_at s t i = bit_or (get_or s.words i 0) (get_or t.words i 0)
 
-each : (s t : Stations) (j : ℕ) → j < 4 → get_or (or_at s t 0 ∷ or_at s t 1 ∷ or_at s t 2 ∷ or_at s t 3 ∷ []) j 0 ≡ or_at s t j
-each s t zero h = refl
-each s t (suc zero) h = refl
-each s t (suc (suc zero)) h = refl
-each s t (suc (suc (suc zero))) h = refl
-each s t (suc (suc (suc (suc j)))) h = absurd (omega arith)
-
 pub member_either : (s t u : Stations) → u.words ≡ or_at s t 0 ∷ or_at s t 1 ∷ or_at s t 2 ∷ or_at s t 3 ∷ [] → member u ≡ either (member s) (member t)
 unfolding member
 member_either s t u e =
     fun_ext (λ q.
     guarded q _ _ (λ h.
     ap (λ ws. at_word ws q) e
-    ∙ ap (λ (x : ℕ). bit_set x (q % 64)) (each s t (q / 64) (omega arith))
+    ∙ ap (λ (x : ℕ). bit_set x (q % 64)) (four_each (or_at s t) (q / 64) (omega arith))
     ∙ set_or _ _ (q % 64))
     ∙ spread q _ _)
 
@@ -152,11 +146,3 @@ only_words s t =
     let w2 = how_many_same (λ i. f (64 + (64 + i))) (in_word s t 2) 64 (λ i h. only_at s t (64 + (64 + i)) 2 i (omega arith) (omega arith) (omega arith)) in
     let w3 = how_many_same (λ i. f (64 + (64 + (64 + i)))) (in_word s t 3) 64 (λ i h. only_at s t (64 + (64 + (64 + i))) 3 i (omega arith) (omega arith) (omega arith)) in
     omega (arith, a, b, c, w0, w1, w2, w3)
-
-keeps : (b : Bool) → b && not false ≡ b
-keeps true = refl
-keeps false = refl
-
--- nobody is left out
-pub only_nobody : (f g : ℕ → Bool) → g ≡ nobody → only f g ≡ f
-only_nobody f g e = ap (only f) e ∙ fun_ext (λ q. keeps (f q))

@@ -4,6 +4,7 @@ ghost use Rattle.stations.specs.Members.{member, nobody, either, only, put, how_
 ghost use Rattle.stations.specs.Words.{bit_set};
 
 use crate::Stations;
+use std::array;
 
 impl Stations {
     // The set without a member.
@@ -23,7 +24,7 @@ impl Stations {
         ensures { member self.new ≡ put (member self.old) p true }
     {
         let i = p as usize / 64;
-        self.words[i] = self.words[i] | (1u64 << (p % 64));
+        self.words[i] |= 1u64 << (p % 64);
     }
 
     pub fn remove(&mut self, p: u8)
@@ -31,27 +32,24 @@ impl Stations {
         ensures meaning { member self.new ≡ put (member self.old) p false }
     {
         let i = p as usize / 64;
-        self.words[i] = self.words[i] & !(1u64 << (p % 64));
+        self.words[i] &= !(1u64 << (p % 64));
     }
 
     // Adds every member of the other set.
     pub fn add_all(&mut self, other: &Stations)
         ensures { member self.new ≡ either (member self.old) (member other.now) }
     {
-        let [a, b, c, d] = self.words;
-        let [w, x, y, z] = other.words;
-        self.words = [a | w, b | x, c | y, d | z];
+        self.words = array::from_fn(|i| self.words[i] | other.words[i]);
     }
 
     // How many members are not in the other set.
+    // A count is a plain u16 that callers add and compare, so its bound is a promise and not a type of its own.
     pub fn count_without(&self, other: &Stations) -> u16
         ensures value { result ≡ how_many (only (member self.now) (member other.now)) 256 }
         ensures bound { result ≤ 256 }
     {
-        bits_without(self.words[0], other.words[0])
-            + bits_without(self.words[1], other.words[1])
-            + bits_without(self.words[2], other.words[2])
-            + bits_without(self.words[3], other.words[3])
+        let pairs = self.words.iter().zip(&other.words);
+        pairs.map(|(word, mask)| bits_without(*word, *mask)).sum()
     }
 
     pub fn count(&self) -> u16
@@ -70,8 +68,7 @@ impl Stations {
 
 // How many bits are set in the word and not in the mask.
 fn bits_without(word: u64, mask: u64) -> u16
-    ensures value { result ≡ how_many (only (bit_set word) (bit_set mask)) 64 }
-    ensures bound { result ≤ 64 }
+    ensures { result ≡ how_many (only (bit_set word) (bit_set mask)) 64 }
 {
     (word & !mask).count_ones() as u16
 }

@@ -1,6 +1,6 @@
 use Rattle.std.proofs.Common.{◌≡◌, ℕ, ◌-◌, ◌^◌, ◌<◌, sym, ap, ◌∙◌, mod-eq_of_lt, arith}
 use lib.Bits.{bit_and, and_le_l}
-use lib.Count.{ones, ones-le}
+use lib.Count.{ones}
 use Rattle.stations.specs.Members.{only, how_many}
 use Rattle.stations.specs.Words.{bit_set}
 use Rattle.stations.proofs.Digits.{set_without}
@@ -14,11 +14,4 @@ without w m hw hm =
     ap ones (sym (mod-eq_of_lt lt)) ∙ ones_count x 64 ∙ how_many_same (bit_set x) (only (bit_set w) (bit_set m)) 64 (λ i h. set_without w m i h hm)
 
 pub returns : goal.returns
-returns c =
-    let w = c.args.word in
-    let m = c.args.mask in
-    let hw : w < 2 ^ 64 = c.ranges.word.fits in
-    record {
-      value = without w m hw c.ranges.mask.fits;
-      bound = ones-le 64 _ (omega (arith, and_le_l w ((2 ^ 64 - 1) - m)));
-    }
+returns c = without c.args.word c.args.mask c.ranges.word.fits c.ranges.mask.fits
