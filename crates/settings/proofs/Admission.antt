@@ -12,7 +12,7 @@ use Rattle.settings.specs.Admission.{unless, admission, conditions_met, Admitted
 passed : {A : Type 0} (test : Bool) (fault : SettingsFault) (rest : Result A Refusal) (x : A) → unless test fault rest ≡ Ok x → (test ≡ true) × (rest ≡ Ok x)
 passed test fault rest x e = grind arith
 
-in_range_facts : (c : Choice) → in_range c ≡ true → InRange c
+pub in_range_facts : (c : Choice) → in_range c ≡ true → InRange c
 in_range_facts c e = grind (arith, nat_tests)
 
 conditions_facts : (c : Choice) → conditions_met c ≡ Ok c → Conditions c

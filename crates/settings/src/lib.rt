@@ -5,6 +5,7 @@ mod cases;
 mod choice;
 mod conditions;
 mod fault;
+mod ranges;
 mod rows;
 mod settings;
 

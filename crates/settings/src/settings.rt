@@ -19,10 +19,8 @@ impl Settings {
     pub fn new(choice: Choice) -> Result<Settings, SettingsFault>
         ensures { outcome result (λ s. s.choice) ≡ admission choice }
     {
-        match conditions::judge(choice) {
-            Ok(()) => Ok(Settings { choice }),
-            Err(fault) => Err(fault),
-        }
+        conditions::judge(choice)?;
+        Ok(Settings { choice })
     }
 
     // The choice that was admitted.
@@ -47,7 +45,6 @@ impl Settings {
 }
 
 // A table has 1 to 256 places, and the stations present, at least one, have room in it.
-// There is a table of at most 256 stations, and from one to all of them are present.
 pub fn start_in_range(table: u16, present: u16) -> bool
     ensures { result ≡ start_in_range table present }
 {

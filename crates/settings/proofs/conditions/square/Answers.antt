@@ -1,6 +1,0 @@
-use Rattle.std.proofs.Common.{refl}
-use Rattle.std.proofs.lemmas.Nat.{mul-le}
-use Rattle.settings.proofs.conditions.square.Goals as goal
-
-pub returns : goal.returns
-returns c = record { value = refl; bound = mul-le _ _ 115 115 c.requires c.requires }
