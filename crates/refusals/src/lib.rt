@@ -24,6 +24,7 @@ pub enum Layer {
 // A refusal as a caller is told of it.
 #[derive(Clone, Copy, PartialEq, Eq, Debug)]
 pub struct Refusal {
+    // the number that is printed; each layer has an enum of its own for its faults
     pub number: u8,
     pub layer: Layer,
     // a byte offset for the file's records, an ordinal from 1 for a step, else 0
