@@ -48,5 +48,5 @@ impl Settings {
 pub fn start_in_range(table: u16, present: u16) -> bool
     ensures { result ≡ start_in_range table present }
 {
-    1 <= table && table <= 256 && 1 <= present && present <= table
+    (1..=256).contains(&table) && (1..=table).contains(&present)
 }
