@@ -6,7 +6,7 @@ use Rattle.std.proofs.lemmas.Nat.{mod_below}
 use Rattle.std.proofs.lemmas.Bool.{cases_eq, cases_Bool, eq-eqb, ne_eqb, cond-true, cond-false}
 use Rattle.stations.specs.Members.{how_many, put}
 use Rattle.stations.specs.Words.{bit, bit_set}
-use Rattle.stations.proofs.Digits.{bit_small}
+use Rattle.std.proofs.lemmas.Nat.Bits.{bit_at-lt}
 
 -- what passes alike is counted alike
 pub how_many_same : (f g : ℕ → Bool) (n : ℕ) → ((i : ℕ) → i < n → f i ≡ g i) → how_many f n ≡ how_many g n
@@ -107,5 +107,5 @@ ones_count w (suc k) =
     ap (λ (j : ℕ). ones (w % 2 ^ j)) (omega arith) ∙ ap ones (mod-pow-add w 1 k)
     ∙ ones_cat k (bit w k) (w % 2 ^ k) (mod_below w (2 ^ k) (pow_pos k))
     ∙ ap (λ (x : ℕ). ones (bit w k) + x) (ones_count w k)
-    ∙ ap (λ (x : ℕ). x + how_many (bit_set w) k) (ones_bit (bit w k) (bit_small w k))
+    ∙ ap (λ (x : ℕ). x + how_many (bit_set w) k) (ones_bit (bit w k) (bit_at-lt w k))
     ∙ add_comm _ _

@@ -11,7 +11,8 @@ use Rattle.std.specs.List.{sum, zip}
 use Rattle.stations.specs.declared.Stations.{Stations}
 use Rattle.stations.specs.Members.{member, only, how_many, set_of}
 use Rattle.stations.specs.Words.{bit, bit_set, are_words, bits, bits_small, word_of, words_of, words_small}
-use Rattle.stations.proofs.Digits.{bit_small, set_or, set_zero, set_pow}
+use Rattle.std.proofs.lemmas.Nat.Bits.{bit_at-lt}
+use Rattle.stations.proofs.Digits.{set_or, set_zero, set_pow}
 use Rattle.stations.proofs.Words.{four_each, member_at, member_past, only_words}
 
 pub words_length : (n : ℕ) (ws : List ℕ) → are_words n ws ≡ true → length ws ≡ n
@@ -36,7 +37,7 @@ unfolding bits
 bits_back w zero = omega arith
 bits_back w (suc n) =
     ap (λ (x : ℕ). x + cond (bit_set w n) (2 ^ n) 0) (bits_back w n)
-    ∙ ap (λ (x : ℕ). w % 2 ^ n + x) (one_bit (bit w n) (bit_small w n))
+    ∙ ap (λ (x : ℕ). w % 2 ^ n + x) (one_bit (bit w n) (bit_at-lt w n))
     ∙ add_comm (w % 2 ^ n) (bit w n * 2 ^ n)
     ∙ sym (ap (λ (j : ℕ). w % 2 ^ j) (omega arith) ∙ mod-pow-add w 1 n) where
       one_bit : (b : ℕ) → b < 2 → cond (eqb b 1) (2 ^ n) 0 ≡ b * 2 ^ n
