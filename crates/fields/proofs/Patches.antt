@@ -1,7 +1,15 @@
 -- Bytes that are written into a buffer: their length, what lies before and after them, and one write after another.
-use Rattle.std.proofs.Common.{◌≡◌, ℕ, ◌+◌, ◌≤◌, List, ◌++◌, length, take, drop, sym, ap, ◌∙◌, ap₂, append_assoc, add_assoc, arith, length-append, length-drop, length-take}
+use Rattle.std.proofs.Common.{◌≡◌, ℕ, ◌+◌, ◌-◌, ◌≤◌, List, ◌++◌, length, take, drop, sym, ap, ◌∙◌, ap₂, append_assoc, add_assoc, arith, length-append, length-drop, length-take}
+use borrow.Rule.Slice.PartMut.{put_mid}
 use Rattle.std.proofs.lemmas.List.{drop-drop, take_at, drop_at, length-take-le}
 use Rattle.fields.specs.Patches.{patched}
+
+-- a part of a buffer that now holds the bytes
+pub put_middle : (at : ℕ) (buffer part bytes : List ℕ) → part ≡ bytes → put_mid at ((at + length bytes) - at) buffer part ≡ patched at bytes buffer
+put_middle at buffer part bytes e =
+    let k : (at + length bytes) - at ≡ length bytes = omega arith in
+    ap₂ (λ (j : ℕ) (ys : List ℕ). put_mid at j buffer ys) k e
+    ∙ ap (λ (zs : List ℕ). take at buffer ++ (bytes ++ zs)) (drop-drop (length bytes) at buffer)
 
 -- a write keeps the buffer's length
 pub length_patched : (at : ℕ) (bytes buffer : List ℕ) → at + length bytes ≤ length buffer → length (patched at bytes buffer) ≡ length buffer
