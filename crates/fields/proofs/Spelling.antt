@@ -3,7 +3,7 @@ use Rattle.std.proofs.Common.{◌≡◌, ℕ, ◌^◌, ◌<◌, List, [], ◌++�
 use Rattle.std.proofs.lemmas.List.{drop_all, get_or-drop}
 use Rattle.std.specs.List.{AllByRecursion}
 use Rattle.fields.specs.Numbers.{two, four, signed_four, le2, le4, signed_le4}
-pub use Rattle.fields.specs.Laws.{two_le2_more, four_le4_more, signed_back_more, two_front, four_front, signed_front}
+pub use Rattle.fields.specs.Lawful.{two_le2_more, four_le4_more, signed_back_more, two_front, four_front, signed_front}
 
 pub four_le4 : (x : ℕ) → x < 2 ^ 32 → four (le4 x) 0 ≡ x
 four_le4 x h = four_le4_more x [] h

@@ -1,10 +1,10 @@
 // Numbers that stand as so many bytes, the low byte first.
-ghost use Rattle.std.specs.Prelude.{◌≡◌, ℕ, ◌^◌, ◌<◌, ◌≤◌, List, ◌++◌, length, take, drop, refl};
+ghost use Rattle.std.specs.Prelude.{◌≡◌, ◌^◌, ◌<◌, ℕ, List};
 ghost use Rattle.std.specs.Int.{w32};
-ghost use Rattle.std.specs.List.{AllByRecursion};
-ghost use Rattle.std.proofs.Common.{SFits, rules};
+ghost use Rattle.std.proofs.Common.{SFits};
 ghost use Rattle.fields.specs.Numbers.{two, four, signed_four, le2, le4, signed_le4};
-ghost use Rattle.fields.specs.Laws.{all_le2, all_le4, all_signed_le4, two_below, four_below, signed_below, two_le2_more, four_le4_more, signed_back_more, two_front, four_front, signed_front, two_first, four_first, signed_first};
+ghost use Rattle.fields.specs.Laws.{FieldLaws};
+ghost use Rattle.fields.specs.Lawful.{two_laws, four_laws, signed_laws};
 
 // A number that takes N bytes.
 pub trait Field<const N: usize> {
@@ -25,26 +25,8 @@ pub trait Field<const N: usize> {
     fn spell(self) -> [u8; N]
         ensures { result ≡ spelled self };
 
-    // no number takes more than eight bytes
-    ghost short: { N ≤ 8 };
-
-    // what follows the first bytes does not count
-    ghost front_only: { (bytes : List ℕ) → front (take N bytes) ≡ front bytes };
-
-    // each number takes N bytes
-    ghost length_spelled: { (x : Self) → length (spelled x) ≡ N };
-
-    // they are bytes
-    ghost bytes_spelled: { (x : Self) → AllByRecursion (λ b. b < 256) (spelled x) };
-
-    // bytes say a number that fits
-    ghost front_fits: { (bytes : List ℕ) → AllByRecursion (λ b. b < 256) bytes → fits (front bytes) };
-
-    // what was spelled is read back, whatever follows it
-    ghost read_back: { (x : Self) (more : List ℕ) → fits x → front (spelled x ++ more) ≡ x };
-
-    // bytes are the spelling of the number in front, and what follows it
-    ghost one_spelling: { (bytes : List ℕ) → AllByRecursion (λ b. b < 256) bytes → N ≤ length bytes → bytes ≡ spelled (front bytes) ++ drop N bytes };
+    // Spelling and reading undo each other.
+    ghost laws: { FieldLaws N front spelled fits };
 }
 
 impl Field<2> for u16 {
@@ -54,19 +36,7 @@ impl Field<2> for u16 {
 
     ghost fits = { λ x. x < 2 ^ 16 };
 
-    ghost short = { Prim.search rules };
-
-    ghost front_only = { two_first };
-
-    ghost length_spelled = { λ x. refl };
-
-    ghost bytes_spelled = { all_le2 };
-
-    ghost front_fits = { two_below };
-
-    ghost read_back = { two_le2_more };
-
-    ghost one_spelling = { two_front };
+    ghost laws = { two_laws };
 
     fn read(bytes: &[u8; 2]) -> u16 {
         u16::from_le_bytes(*bytes)
@@ -84,19 +54,7 @@ impl Field<4> for u32 {
 
     ghost fits = { λ x. x < 2 ^ 32 };
 
-    ghost short = { Prim.search rules };
-
-    ghost front_only = { four_first };
-
-    ghost length_spelled = { λ x. refl };
-
-    ghost bytes_spelled = { all_le4 };
-
-    ghost front_fits = { four_below };
-
-    ghost read_back = { four_le4_more };
-
-    ghost one_spelling = { four_front };
+    ghost laws = { four_laws };
 
     fn read(bytes: &[u8; 4]) -> u32 {
         u32::from_le_bytes(*bytes)
@@ -114,19 +72,7 @@ impl Field<4> for i32 {
 
     ghost fits = { λ x. SFits w32 x };
 
-    ghost short = { Prim.search rules };
-
-    ghost front_only = { signed_first };
-
-    ghost length_spelled = { λ x. refl };
-
-    ghost bytes_spelled = { all_signed_le4 };
-
-    ghost front_fits = { signed_below };
-
-    ghost read_back = { signed_back_more };
-
-    ghost one_spelling = { signed_front };
+    ghost laws = { signed_laws };
 
     fn read(bytes: &[u8; 4]) -> i32 {
         i32::from_le_bytes(*bytes)

@@ -2,4 +2,4 @@ use Rattle.std.proofs.Common.{arith}
 use Rattle.fields.proofs.split.Goals as goal
 
 pub split_first_chunk-requires : goal.split_first_chunk-requires
-split_first_chunk-requires g c = omega (arith, g.met.T.Field.short)
+split_first_chunk-requires g c = omega (arith, g.met.T.Field.laws.short)
