@@ -1,14 +1,10 @@
 -- The bytes and the text of a gas record.
-use Rattle.std.specs.Prelude.{◌≡◌, ℕ, ◌^◌, ◌<◌, Bool, true, false, cond, ◌↔◌, List, ◌++◌, length, is_some, Some, None, codes, decimal, Option, FitsSigned, ◌==◌}
+use Rattle.std.specs.Prelude.{ℕ, ◌^◌, ◌<◌, Bool, false, cond, List, ◌++◌, length, Some, None, codes, decimal, Option, FitsSigned, ◌==◌}
 use Rattle.std.specs.Int.{w32}
 use Rattle.std.specs.Fmt.{signed_decimal}
-use Rattle.std.specs.List.{AllByRecursion}
 use Rattle.fields.specs.Numbers.{two, four, signed_four, le2, le4, signed_le4}
-use Rattle.records.specs.declared.class.Class.TheVariants as class
-use Rattle.records.specs.declared.class.Shape.TheVariants.{Fits}
 use Rattle.records.specs.declared.gas.Gas.{Gas}
 use Rattle.records.specs.declared.gas.Gas.TheVariants.{NoCell, Zero, ZeroSpan}
-use Rattle.records.specs.Shapes.{shape_of}
 
 -- bytes of a length that start with a form
 abbrev pub has_form : ℕ → ℕ → List ℕ → Bool
@@ -38,15 +34,3 @@ abbrev pub Held : Gas → Type 0
 Held NoCell = Unit {0}
 Held (Zero z) = FitsSigned w32 z
 Held (ZeroSpan z s) = FitsSigned w32 z × (s < 2 ^ 32)
-
--- the bytes of a gas record are read as that record
-abbrev pub GasReadsBack : Type 0
-GasReadsBack = (g : Gas) → Held g → gas_of (gas_bytes g) ≡ Some g
-
--- bytes that are read as a gas record are its bytes
-abbrev pub GasOneSpelling : Type 0
-GasOneSpelling = (bs : List ℕ) (g : Gas) → AllByRecursion (λ b. b < 256) bs → gas_of bs ≡ Some g → bs ≡ gas_bytes g
-
--- bytes are read as a gas record exactly where they fit its class
-abbrev pub GasReadWhereItFits : Type 0
-GasReadWhereItFits = (bs : List ℕ) → (is_some (gas_of bs) ≡ true) ↔ (shape_of class.Gas bs ≡ Fits)

@@ -1,8 +1,9 @@
 // A gas record: no cell, a zero, or a zero and a span.
 ghost use Rattle.std.specs.Prelude.{◌≡◌, ◌++◌, length, drop, Some};
-ghost use Rattle.records.specs.Gases.{gas_of, gas_bytes, gas_text};
-ghost use Rattle.records.specs.Gases.{GasReadsBack, GasOneSpelling, GasReadWhereItFits};
+ghost use Rattle.records.specs.declared.class.Class.TheVariants as classes;
+ghost use Rattle.records.specs.Gases.{gas_of, gas_bytes, gas_text, Held};
 
+use crate::delivered::Delivered;
 use std::fmt;
 
 #[derive(Clone, Copy, PartialEq, Eq, Debug)]
@@ -12,21 +13,17 @@ pub enum Gas {
     ZeroSpan { zero: i32, span: u32 },
 }
 
-impl Gas {
-    // The gas record that bytes say; none where they do not fit.
-    pub fn from_bytes(bytes: &[u8]) -> Option<Gas>
-        ensures value { result ≡ gas_of bytes.now }
-        ensures back { GasReadsBack }
-        ensures only { GasOneSpelling }
-        ensures fits { GasReadWhereItFits }
-    {
-        Gas::read(bytes)
-    }
+impl Delivered for Gas {
+    ghost class = { classes.Gas };
 
-    // What `from_bytes` answers.
-    fn read(bytes: &[u8]) -> Option<Gas>
-        ensures { result ≡ gas_of bytes.now }
-    {
+    ghost said = { gas_of };
+
+    ghost spelled = { gas_bytes };
+
+    ghost held = { Held };
+
+    #[tactic(auto, using(crate::proofs::Gases::reads_back, crate::proofs::Gases::one_spelling, crate::proofs::Gases::read_where_it_fits))]
+    fn from_bytes(bytes: &[u8]) -> Option<Gas> {
         match bytes {
             [0, 0] => Some(Gas::NoCell),
             [1, 0, z0, z1, z2, z3] => Some(Gas::Zero(i32::from_le_bytes([*z0, *z1, *z2, *z3]))),
@@ -37,7 +34,9 @@ impl Gas {
             _ => None,
         }
     }
+}
 
+impl Gas {
     // Writes the record's bytes at the front, and answers how many; the rest stays as it was.
     pub fn put(&self, out: &mut [u8; 10]) -> usize
         ensures value { result ≡ length (gas_bytes self.now) }

@@ -2,9 +2,11 @@
 #![tactic(auto)]
 
 mod class;
+mod delivered;
 mod gas;
 mod response;
 
-pub use class::{Class, Shape};
+pub use class::{Class, Misfit, UnknownClass};
+pub use delivered::Delivered;
 pub use gas::Gas;
 pub use response::Response;

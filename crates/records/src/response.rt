@@ -1,8 +1,9 @@
 // A response: a gain and a corner period.
 ghost use Rattle.std.specs.Prelude.{◌≡◌, Some};
-ghost use Rattle.records.specs.Responses.{response_of, response_bytes, response_text};
-ghost use Rattle.records.specs.Responses.{ResponseReadsBack, ResponseOneSpelling, ResponseReadWhereItFits};
+ghost use Rattle.records.specs.declared.class.Class.TheVariants as classes;
+ghost use Rattle.records.specs.Responses.{response_of, response_bytes, response_text, Held};
 
+use crate::delivered::Delivered;
 use std::fmt;
 
 #[derive(Clone, Copy, PartialEq, Eq, Debug)]
@@ -11,21 +12,17 @@ pub struct Response {
     pub corner: u32,
 }
 
-impl Response {
-    // The response that bytes say; none where they do not fit.
-    pub fn from_bytes(bytes: &[u8]) -> Option<Response>
-        ensures value { result ≡ response_of bytes.now }
-        ensures back { ResponseReadsBack }
-        ensures only { ResponseOneSpelling }
-        ensures fits { ResponseReadWhereItFits }
-    {
-        Response::read(bytes)
-    }
+impl Delivered for Response {
+    ghost class = { classes.Response };
 
-    // What `from_bytes` answers.
-    fn read(bytes: &[u8]) -> Option<Response>
-        ensures { result ≡ response_of bytes.now }
-    {
+    ghost said = { response_of };
+
+    ghost spelled = { response_bytes };
+
+    ghost held = { Held };
+
+    #[tactic(auto, using(crate::proofs::Responses::reads_back, crate::proofs::Responses::one_spelling, crate::proofs::Responses::read_where_it_fits))]
+    fn from_bytes(bytes: &[u8]) -> Option<Response> {
         match bytes {
             [g0, g1, g2, g3, c0, c1, c2, c3] => Some(Response {
                 gain: u32::from_le_bytes([*g0, *g1, *g2, *g3]),
@@ -34,7 +31,9 @@ impl Response {
             _ => None,
         }
     }
+}
 
+impl Response {
     // The bytes of the response.
     pub fn to_bytes(&self) -> [u8; 8]
         ensures { result ≡ response_bytes self.now }
