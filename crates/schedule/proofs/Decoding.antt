@@ -7,12 +7,13 @@ use Rattle.fields.specs.Numbers.{two, four, le2, le4}
 use Rattle.fields.proofs.Spelling.{two_le2_more, four_le4_more, two_front, four_front, two_only, two_drop}
 use Rattle.records.specs.declared.class.Class.{Class}
 use Rattle.records.specs.declared.class.Class.TheVariants.{Response, Gas}
+use Rattle.records.specs.Classes.{class_of, class_number}
 use Rattle.schedule.specs.declared.fault.Flaw.{Flaw}
 use Rattle.schedule.specs.declared.fault.Flaw.TheVariants as flaw
 use Rattle.schedule.specs.declared.stage.Stage.{Stage}
 use Rattle.schedule.specs.declared.stage.Stage.TheVariants as stage
 use Rattle.schedule.specs.Items.{Item, settings, start, tick, enter, leave, crash, read, write, deliver}
-use Rattle.schedule.specs.Kinds.{Kind, Settings, Start, Tick, Enter, Leave, Crash, Read, Write, Deliver, class_of, class_number, class_or, choice_of, choice_bytes, item_of, kind_in, body_of}
+use Rattle.schedule.specs.Kinds.{Kind, Settings, Start, Tick, Enter, Leave, Crash, Read, Write, Deliver, class_or, choice_of, choice_bytes, item_of, kind_in, body_of}
 use Rattle.schedule.specs.Rules.{wrong_length, misplaced, out_of_range, judged, start_wrong, start_out, write_wrong, unless_length}
 use Rattle.schedule.specs.Writing.{Fitting}
 use Rattle.schedule.proofs.Readings.{never}

@@ -8,3 +8,5 @@ pub mod Remaining
 pub mod Checks
 pub mod Decoding
 pub mod RoundTrips
+pub mod Starts
+pub mod Places

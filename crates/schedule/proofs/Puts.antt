@@ -1,18 +1,22 @@
 -- Puts, one after the other, and the records that are still to be put.
-use Rattle.std.proofs.Common.{◌≡◌, ℕ, ◌+◌, ◌<◌, ◌≤◌, List, [], ◌++◌, length, take, drop, sym, ap, ◌∙◌, ap₂, add-zero, zero-add, arith, take-append-drop}
+use Rattle.std.proofs.Common.{◌≡◌, ℕ, ◌+◌, ◌-◌, ◌<◌, ◌≤◌, List, [], ◌++◌, length, take, drop, sym, ap, ◌∙◌, ap₂, add-zero, zero-add, arith, append-nil, length-drop, take-append-drop}
+use Rattle.std.proofs.lemmas.List.{take_rest, drop_all, drop-drop}
+use borrow.Rule.Slice.PartMut.{put_mid}
 use Rattle.fields.specs.Patches.{patched}
 use Rattle.fields.proofs.Patches.{patched_append}
 use Rattle.schedule.specs.declared.Record.{Record}
 use Rattle.schedule.specs.Items.{shown}
 use Rattle.schedule.specs.Kinds.{spell}
+use Rattle.schedule.specs.Writing.{at_front}
 use Rattle.schedule.proofs.Remaining.{all_bytes, bytes_from, record_at, bytes_next, length_next, bytes_end}
 
--- two puts, one after the other, are one
-pub two_puts : (at to : ℕ) (a b whole before between after : List ℕ) → at + length a + length b ≤ length before → to ≡ at + length a
-    → between ≡ patched at a before → after ≡ patched to b between → a ++ b ≡ whole → after ≡ patched at whole before
-two_puts at to a b whole before between after h t p q w =
-    q ∙ ap (λ (n : ℕ). patched n b between) t ∙ ap (patched (at + length a) b) p
-    ∙ sym (patched_append at a b before h) ∙ ap (λ (x : List ℕ). patched at x before) w
+-- bytes that were put at the front of what follows a place
+pub put_after : (at : ℕ) (bytes buffer part : List ℕ) → at ≤ length buffer
+    → part ≡ at_front bytes (take (length buffer - at) (drop at buffer)) → put_mid at (length buffer - at) buffer part ≡ patched at bytes buffer
+put_after at bytes buffer part h e =
+    let none : drop (length buffer - at) (drop at buffer) ≡ [] = drop_all (length buffer - at) (drop at buffer) (simp length-drop (omega arith)) in
+    ap₂ (λ (ys zs : List ℕ). take at buffer ++ (ys ++ zs)) (e ∙ ap (at_front bytes) (take_rest buffer at)) none
+    ∙ ap (λ (zs : List ℕ). take at buffer ++ zs) (append-nil (at_front bytes (drop at buffer)) ∙ ap (λ (r : List ℕ). bytes ++ r) (drop-drop (length bytes) at buffer))
 
 pub patched_none : (at : ℕ) (buffer : List ℕ) → patched at [] buffer ≡ buffer
 patched_none at buffer = ap (λ (n : ℕ). take at buffer ++ drop n buffer) (add-zero at) ∙ take-append-drop at buffer

@@ -28,7 +28,7 @@ pub record PlacedItem : Type 0 where
 -- what a value of the code says
 abbrev pub shown : Record → Item
 shown (shape.Settings c) = settings c
-shown (shape.Start c t k r) = start c t k r.now
+shown (shape.Start s) = start s.class s.table s.present s.first.now
 shown shape.Tick = tick
 shown (shape.Enter p) = enter p
 shown (shape.Leave p) = leave p

@@ -2,7 +2,8 @@
 use Rattle.std.specs.Prelude.{ℕ, cond, List, [], ◌++◌, drop, Some, None, Option, ◌==◌}
 use Rattle.fields.specs.Numbers.{two, four, le2, le4}
 use Rattle.records.specs.declared.class.Class.{Class}
-use Rattle.records.specs.declared.class.Class.TheVariants.{Response, Gas}
+use Rattle.records.specs.declared.class.Class.TheVariants.{Response}
+use Rattle.records.specs.Classes.{class_of, class_number}
 use Rattle.settings.specs.declared.choice.Choice.{Choice}
 use Rattle.schedule.specs.Framing.{framed}
 use Rattle.schedule.specs.Items.{Item, settings, start, tick, enter, leave, crash, read, write, deliver}
@@ -34,14 +35,6 @@ kind_of n =
     cond (n == 1) (Some Settings) (cond (n == 2) (Some Start) (cond (n == 3) (Some Tick)
     (cond (n == 4) (Some Enter) (cond (n == 5) (Some Leave) (cond (n == 6) (Some Crash)
     (cond (n == 7) (Some Read) (cond (n == 8) (Some Write) (cond (n == 9) (Some Deliver) None))))))))
-
--- classes go by 1 and 2
-abbrev pub class_of : ℕ → Option Class
-class_of n = cond (n == 1) (Some Response) (cond (n == 2) (Some Gas) None)
-
-abbrev pub class_number : Class → ℕ
-class_number Response = 1
-class_number Gas = 2
 
 -- a start's class, where its number is known to be one
 abbrev pub class_or : Option Class → Class

@@ -2,8 +2,9 @@
 use Rattle.std.specs.Prelude.{ℕ, Bool, true, false, cond, not, List, length, drop, Some, None, Ok, Err, Option, Result, ◌==◌, nat_le, nat_lt}
 use Rattle.fields.specs.Numbers.{two}
 use Rattle.records.specs.declared.class.Class.{Class}
-use Rattle.records.specs.declared.class.Shape.{Shape}
-use Rattle.records.specs.declared.class.Shape.TheVariants.{Fits, WrongLength, UnknownForm}
+use Rattle.records.specs.declared.class.Misfit.{Misfit}
+use Rattle.records.specs.declared.class.Misfit.TheVariants.{WrongLength, UnknownForm}
+use Rattle.records.specs.Classes.{class_of}
 use Rattle.records.specs.Shapes.{shape_of}
 use Rattle.settings.specs.Admission.{start_in_range}
 use Rattle.schedule.specs.declared.Record.{Record}
@@ -12,17 +13,17 @@ use Rattle.schedule.specs.declared.fault.Flaw.TheVariants as flaw
 use Rattle.schedule.specs.declared.stage.Stage.{Stage}
 use Rattle.schedule.specs.declared.stage.Stage.TheVariants as stage
 use Rattle.schedule.specs.Items.{Item, settings, start, tick, enter, leave, crash, read, write, deliver, shown}
-use Rattle.schedule.specs.Kinds.{Kind, Settings, Start, Tick, Enter, Leave, Crash, Read, Write, Deliver, number, kind_of, class_of, item_of}
+use Rattle.schedule.specs.Kinds.{Kind, Settings, Start, Tick, Enter, Leave, Crash, Read, Write, Deliver, number, kind_of, item_of}
 
-abbrev pub wrong : Shape → Bool
-wrong Fits = false
-wrong WrongLength = true
-wrong UnknownForm = false
+abbrev pub wrong : Result Unit Misfit → Bool
+wrong (Ok u) = false
+wrong (Err WrongLength) = true
+wrong (Err UnknownForm) = false
 
-abbrev pub unknown : Shape → Bool
-unknown Fits = false
-unknown WrongLength = false
-unknown UnknownForm = true
+abbrev pub unknown : Result Unit Misfit → Bool
+unknown (Ok u) = false
+unknown (Err WrongLength) = false
+unknown (Err UnknownForm) = true
 
 -- not exactly n bytes
 abbrev pub unless_length : ℕ → List ℕ → Bool
@@ -87,6 +88,14 @@ judged s k bs =
     (cond (misplaced s k) (Err flaw.Order)
     (cond (out_of_range s k bs) (Err flaw.Range)
     (Ok (item_of k bs))))
+
+-- what is wrong with a start by its fields: class, length of the table, stations present, first record
+abbrev pub start_judged : Stage → Class → ℕ → ℕ → List ℕ → Result Unit Flaw
+start_judged s c t k r =
+    cond (wrong (shape_of c r)) (Err flaw.Length)
+    (cond (misplaced s Start) (Err flaw.Order)
+    (cond (unknown (shape_of c r)) (Err flaw.Range)
+    (cond (start_in_range t k) (Ok tt) (Err flaw.Range))))
 
 abbrev pub of_kind : Stage → List ℕ → Option Kind → Result Item Flaw
 of_kind s bs None = Err flaw.Kind

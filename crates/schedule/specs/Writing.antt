@@ -31,10 +31,14 @@ as_read room bs (Ok xs) = into_room room bs
 abbrev pub written : ℕ → List Item → Result (List ℕ) Refusal
 written room items = as_read room (spelled items) (read_of (spelled items))
 
+-- a buffer with bytes in place of its own at the front
+abbrev pub at_front : List ℕ → List ℕ → List ℕ
+at_front bs buffer = bs ++ drop (length bs) buffer
+
 -- the buffer after a write: the bytes at its front, or as it was
 abbrev pub buffer_after : Result (List ℕ) Refusal → List ℕ → List ℕ
 buffer_after (Err e) buffer = buffer
-buffer_after (Ok bs) buffer = bs ++ drop (length bs) buffer
+buffer_after (Ok bs) buffer = at_front bs buffer
 
 -- the stage after an item that a reader accepts at a stage, or its flaw
 abbrev pub onward : Stage → Result Item Flaw → Result Stage Flaw

@@ -1,10 +1,11 @@
 // What is wrong with a schedule file.
 ghost use Rattle.std.specs.Prelude.{◌≡◌};
-ghost use Rattle.schedule.specs.Faults.{number, told};
+ghost use Rattle.schedule.specs.Faults.{number, flaw_of, told};
 ghost use Rattle.schedule.specs.Writing.{told_write};
 ghost use Rattle.schedule.specs.declared.fault.WriteFault.TheVariants as write_fault;
 ghost use Rattle.schedule.specs.declared.fault.ReadFault.TheVariants.{File, Memory};
 
+use records::Misfit;
 use refusals::{Layer, Refusal};
 use settings::SettingsFault;
 use std::alloc::{AllocError, AllocFailed};
@@ -33,11 +34,11 @@ pub enum FileFault {
     At { flaw: Flaw, at: usize },
 }
 
-impl Flaw {
-    fn number(&self) -> u8
-        ensures { result ≡ number self.now }
-    {
-        match self {
+impl From<Flaw> for u8 {
+    ghost from_gives = { λ f n. n ≡ number f };
+
+    fn from(flaw: Flaw) -> u8 {
+        match flaw {
             Flaw::Short => 1,
             Flaw::Kind => 2,
             Flaw::Length => 3,
@@ -47,21 +48,33 @@ impl Flaw {
     }
 }
 
-impl FileFault {
-    // The number, layer and place that a caller is told.
-    pub fn refusal(&self) -> Refusal
-        ensures { result ≡ told self.now }
-    {
-        match self {
+// The first flaw that the bytes of a record have.
+impl From<Misfit> for Flaw {
+    ghost from_gives = { λ m f. f ≡ flaw_of m };
+
+    fn from(misfit: Misfit) -> Flaw {
+        match misfit {
+            Misfit::WrongLength => Flaw::Length,
+            Misfit::UnknownForm => Flaw::Range,
+        }
+    }
+}
+
+// The number, layer and place that a caller is told.
+impl From<FileFault> for Refusal {
+    ghost from_gives = { λ e r. r ≡ told e };
+
+    fn from(fault: FileFault) -> Refusal {
+        match fault {
             FileFault::Oversize => Refusal {
                 number: 6,
                 layer: Layer::File,
                 place: 0,
             },
             FileFault::At { flaw, at } => Refusal {
-                number: flaw.number(),
+                number: flaw.into(),
                 layer: Layer::File,
-                place: *at,
+                place: at,
             },
         }
     }
@@ -108,14 +121,14 @@ pub enum WriteFault {
     Buffer(SettingsFault),
 }
 
-impl WriteFault {
-    // The number, layer and place that a caller is told.
-    pub fn refusal(&self) -> Refusal
-        ensures { result ≡ told_write self.now }
-    {
-        match self {
-            WriteFault::File(e) => e.refusal(),
-            WriteFault::Buffer(e) => e.refusal(),
+// The number, layer and place that a caller is told.
+impl From<WriteFault> for Refusal {
+    ghost from_gives = { λ e r. r ≡ told_write e };
+
+    fn from(fault: WriteFault) -> Refusal {
+        match fault {
+            WriteFault::File(e) => e.into(),
+            WriteFault::Buffer(e) => e.into(),
         }
     }
 }

@@ -4,7 +4,6 @@ ghost use Rattle.schedule.specs.declared.stage.Stage.TheVariants.{Settings};
 ghost use Rattle.schedule.specs.Reading.{record_of};
 ghost use Rattle.schedule.specs.Readers.{measured_of, turn_at, answer, answered, stage_past, place_past};
 
-use crate::decide::decide;
 use crate::fault::{FileFault, Flaw};
 use crate::frame::read_frame;
 use crate::stage::Stage;
@@ -33,7 +32,7 @@ fn read_record<'a>(bytes: &'a [u8], stage: Stage) -> Result<Sized<'a>, Flaw>
     ensures { measured_of result ≡ record_of stage bytes.now }
 {
     let frame = read_frame(bytes)?;
-    let item = decide(stage, frame.kind, frame.body)?;
+    let item = stage.decide(frame)?;
     Ok(Sized {
         item,
         size: 4 + frame.body.len(),
@@ -55,7 +54,7 @@ impl<'a> Reader<'a> {
     }
 
     // The next schedule record with its place, or none at the end of the file.
-    // A fault is met again at the next call.
+    // A fault is met again at the next call, so this is no `Iterator`: its items would have no end.
     pub fn next(&mut self) -> Result<Option<Placed<'a>>, FileFault>
         ensures answer { answered result ≡ answer (turn_at self.old) }
         ensures stage { self.new.stage ≡ stage_past self.old.stage (turn_at self.old) }
@@ -73,13 +72,11 @@ impl<'a> Reader<'a> {
                 }),
             };
         }
-        match read_record(&self.file[at..], stage) {
-            Ok(Sized { item, size }) => {
-                self.at = at + size;
-                self.stage = stage.after(&item);
-                Ok(Some(Placed { at, item }))
-            }
-            Err(flaw) => Err(FileFault::At { flaw, at }),
-        }
+        let Sized { item, size } = read_record(&self.file[at..], stage).map_err(
+            |flaw| FileFault::At { flaw, at },
+        )?;
+        self.at = at + size;
+        self.stage = stage.after(&item);
+        Ok(Some(Placed { at, item }))
     }
 }

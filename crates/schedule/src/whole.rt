@@ -25,10 +25,8 @@ pub fn check(file: &[u8]) -> Result<(), FileFault>
 pub fn read<'a>(heap: Global, file: &'a [u8]) -> Result<Vec<Placed<'a>>, ReadFault>
     ensures { Collected (read_of file.now) result }
 {
-    match check(file) {
-        Ok(()) => collect(heap, file),
-        Err(fault) => Err(ReadFault::File(fault)),
-    }
+    check(file)?;
+    collect(heap, file)
 }
 
 // The records of a file that is right.

@@ -1,18 +1,15 @@
 // Writes schedule records into a lent buffer, and refuses what the reader would.
-ghost use Rattle.std.specs.Prelude.{◌≡◌, ℕ, ◌+◌, ◌≤◌, ◌++◌, map, length, drop, nat_le};
-ghost use Rattle.schedule.specs.declared.stage.Stage.TheVariants.{Steps};
-ghost use Rattle.schedule.specs.Items.{start, write, shown};
+ghost use Rattle.std.specs.Prelude.{◌≡◌, ◌≤◌, map, length, nat_le};
+ghost use Rattle.schedule.specs.Items.{shown};
 ghost use Rattle.schedule.specs.Reading.{most_bytes};
 ghost use Rattle.schedule.specs.Readers.{lengthwise, checked_length};
-ghost use Rattle.schedule.specs.Writing.{spelled, written, buffer_after, how_long, wrote, stage_past_item, WrittenIsRead, ReadIsWritten};
+ghost use Rattle.schedule.specs.Writing.{spelled, written, at_front, buffer_after, how_long, wrote, WrittenIsRead, ReadIsWritten};
 
 use crate::Record;
 use crate::fault::{FileFault, Flaw, WriteFault};
 use crate::reader::MOST_BYTES;
-use crate::spelling::{put_record, spelled_len};
 use crate::stage::Stage;
-use records::{Class, Shape};
-use settings::{SettingsFault, start_in_range};
+use settings::SettingsFault;
 
 // Writes the file of the records at the front of the buffer, and answers how many bytes it has.
 // A refusal writes nothing, and what follows the file stays as it was.
@@ -40,11 +37,8 @@ fn check_records(records: &[Record<'_>]) -> Result<usize, FileFault>
     let mut at = 0;
     let mut stage = Stage::Settings;
     for item in records {
-        match stage_past(stage, item) {
-            Ok(next) => stage = next,
-            Err(flaw) => return Err(FileFault::At { flaw, at }),
-        }
-        at += spelled_len(item) as usize;
+        stage = stage.past(item).map_err(|flaw| FileFault::At { flaw, at })?;
+        at += item.size();
     }
     match stage {
         Stage::Steps(_) => Ok(at),
@@ -59,73 +53,20 @@ fn check_records(records: &[Record<'_>]) -> Result<usize, FileFault>
 fn fit_in_file(records: &[Record<'_>]) -> bool
     ensures { result ≡ nat_le (length (spelled (map shown records.now))) most_bytes }
 {
-    let mut total = 0;
-    for item in records {
-        total += spelled_len(item);
-        if total > MOST_BYTES as u128 {
-            return false;
-        }
-    }
-    true
-}
-
-// The stage after a record that a reader would accept at this stage, or its flaw.
-fn stage_past(stage: Stage, item: &Record<'_>) -> Result<Stage, Flaw>
-    ensures { result ≡ stage_past_item stage (shown item.now) }
-{
-    match (stage, item) {
-        (Stage::Settings, Record::Settings(_)) => Ok(Stage::Start),
-        (
-            _,
-            Record::Start {
-                class,
-                table,
-                present,
-                first,
-            },
-        ) => past_start(stage, *class, *table, *present, first),
-        (Stage::Steps(class), Record::Write { station: _, value }) => past_write(class, value),
-        (_, Record::Settings(_)) => Err(Flaw::Order),
-        (Stage::Steps(_), _) => Ok(stage),
-        _ => Err(Flaw::Order),
-    }
-}
-
-fn past_start(
-    stage: Stage,
-    class: Class,
-    table: u16,
-    present: u16,
-    first: &[u8],
-) -> Result<Stage, Flaw>
-    ensures { result ≡ stage_past_item stage (start class table present first.now) }
-{
-    match class.shape(first) {
-        Shape::WrongLength => Err(Flaw::Length),
-        _ if !matches!(stage, Stage::Start) => Err(Flaw::Order),
-        Shape::Fits if start_in_range(table, present) => Ok(Stage::Steps(class)),
-        _ => Err(Flaw::Range),
-    }
-}
-
-fn past_write(class: Class, value: &[u8]) -> Result<Stage, Flaw>
-    ensures { (p : ℕ) → result ≡ stage_past_item (Steps class) (write p value.now) }
-{
-    match class.shape(value) {
-        Shape::WrongLength => Err(Flaw::Length),
-        Shape::UnknownForm => Err(Flaw::Range),
-        Shape::Fits => Ok(Stage::Steps(class)),
-    }
+    let total = records
+        .iter()
+        .fold(0usize, |total, item| total.saturating_add(item.size()));
+    total <= MOST_BYTES
 }
 
 // Puts records that fit, from the front of the buffer on.
 fn put_records(records: &[Record<'_>], buffer: &mut [u8])
     requires fits { length (spelled (map shown records.now)) ≤ length buffer.old }
     requires short { length (spelled (map shown records.now)) ≤ most_bytes }
-    ensures { buffer.new ≡ spelled (map shown records.now) ++ drop (length (spelled (map shown records.now))) buffer.old }
+    ensures { buffer.new ≡ at_front (spelled (map shown records.now)) buffer.old }
 {
     let mut at = 0;
     for item in records {
-        at = put_record(buffer, at, item);
+        at += item.put(&mut buffer[at..]);
     }
 }
