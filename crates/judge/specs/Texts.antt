@@ -1,16 +1,10 @@
 -- What is printed of a file.
 use Rattle.std.specs.Prelude.{ℕ, List, [], ◌∷◌, ◌++◌, Ok, Err, codes, decimal, Result}
-use Rattle.records.specs.declared.class.Class.{Class}
-use Rattle.records.specs.declared.class.Class.TheVariants.{Response, Gas}
+use Rattle.records.specs.Classes.{class_name}
 use Rattle.refusals.specs.declared.Refusal.{Refusal}
 use Rattle.refusals.specs.Texts.{refusal_text}
 use Rattle.judge.specs.declared.contents.Contents.{Contents}
 use Rattle.judge.specs.declared.contents.StepCounts.{StepCounts}
-
--- the name of a class
-abbrev pub class_name : Class → List ℕ
-class_name Response = codes "response"
-class_name Gas = codes "gas"
 
 -- the end of a line
 abbrev pub line_feed : List ℕ

@@ -2,7 +2,7 @@
 ghost use Rattle.std.specs.Prelude.{◌≡◌, ◌+◌, ◌^◌, ◌<◌, Some};
 ghost use Rattle.schedule.specs.Items.{shown as item_of};
 ghost use Rattle.judge.specs.Contents.{nothing, noted, steps, counted};
-ghost use Rattle.judge.specs.Texts.{class_name, counts_text, contents_text};
+ghost use Rattle.judge.specs.Texts.{counts_text, contents_text};
 
 use records::Class;
 use schedule::Record;
@@ -10,7 +10,7 @@ use settings::Choice;
 use std::fmt;
 
 // What a file says. Before its settings and its start are noted their fields are 0 and `Response`;
-// an accepted file always has both, so these never show.
+// they are no Options, since an accepted file has both, and a reader's branch for None would never run.
 #[derive(Clone, Copy)]
 pub struct Contents {
     pub choice: Choice,
@@ -23,7 +23,7 @@ pub struct Contents {
 }
 
 // How many steps of each sort there are.
-#[derive(Clone, Copy)]
+#[derive(Clone, Copy, Default)]
 pub struct StepCounts {
     pub ticks: u32,
     pub enters: u32,
@@ -51,15 +51,7 @@ impl Contents {
             class: Class::Response,
             table: 0,
             present: 0,
-            counts: StepCounts {
-                ticks: 0,
-                enters: 0,
-                leaves: 0,
-                crashes: 0,
-                reads: 0,
-                writes: 0,
-                delivers: 0,
-            },
+            counts: StepCounts::default(),
         }
     }
 
@@ -70,15 +62,10 @@ impl Contents {
     {
         match item {
             Record::Settings(choice) => self.choice = *choice,
-            Record::Start {
-                class,
-                table,
-                present,
-                first: _,
-            } => {
-                self.class = *class;
-                self.table = *table;
-                self.present = *present;
+            Record::Start(start) => {
+                self.class = start.class;
+                self.table = start.table;
+                self.present = start.present;
             }
             _ => self.counts.count(item),
         }
@@ -92,37 +79,15 @@ impl StepCounts {
         ensures { self.new ≡ counted self.old (item_of item.now) }
     {
         match item {
-            Record::Settings(_) => {}
-            Record::Start {
-                class: _,
-                table: _,
-                present: _,
-                first: _,
-            } => {}
+            Record::Settings(_) | Record::Start(_) => {}
             Record::Tick => self.ticks += 1,
             Record::Enter(_) => self.enters += 1,
             Record::Leave(_) => self.leaves += 1,
             Record::Crash(_) => self.crashes += 1,
             Record::Read(_) => self.reads += 1,
-            Record::Write {
-                station: _,
-                value: _,
-            } => self.writes += 1,
-            Record::Deliver {
-                message: _,
-                station: _,
-            } => self.delivers += 1,
+            Record::Write { .. } => self.writes += 1,
+            Record::Deliver { .. } => self.delivers += 1,
         }
-    }
-}
-
-// The name of a class.
-fn class_name(class: Class) -> &'static str
-    ensures { result.now ≡ class_name class }
-{
-    match class {
-        Class::Response => "response",
-        Class::Gas => "gas",
     }
 }
 
@@ -148,11 +113,10 @@ impl fmt::Display for Contents {
     ghost output = { λ x. Some (contents_text x) };
 
     fn fmt<W: fmt::Write>(&self, f: &mut fmt::Formatter<W>) -> fmt::Result {
-        let name = class_name(self.class);
         write!(
             f,
-            "records {name}\ntable {}\nstations {}\nsteps {}",
-            self.table, self.present, self.counts
+            "records {}\ntable {}\nstations {}\nsteps {}",
+            self.class, self.table, self.present, self.counts
         )
     }
 }

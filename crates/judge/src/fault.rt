@@ -17,14 +17,14 @@ pub enum Fault {
     Settings(SettingsFault),
 }
 
-impl Fault {
-    // What a caller is told of this fault.
-    pub fn refusal(&self) -> Refusal
-        ensures { result ≡ told self.now }
-    {
-        match self {
-            Fault::File(fault) => fault.refusal(),
-            Fault::Settings(fault) => fault.refusal(),
+// What a caller is told of a fault.
+impl From<Fault> for Refusal {
+    ghost from_gives = { λ e r. r ≡ told e };
+
+    fn from(fault: Fault) -> Refusal {
+        match fault {
+            Fault::File(fault) => fault.into(),
+            Fault::Settings(fault) => fault.into(),
         }
     }
 }
@@ -49,7 +49,7 @@ impl fmt::Display for Fault {
     ghost output = { λ x. Some (refusal_text (told x)) };
 
     fn fmt<W: fmt::Write>(&self, f: &mut fmt::Formatter<W>) -> fmt::Result {
-        let refusal = self.refusal();
+        let refusal = Refusal::from(*self);
         write!(f, "{refusal}")
     }
 }
