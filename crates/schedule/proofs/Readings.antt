@@ -1,15 +1,17 @@
 -- What one turn does to what is still to be read.
-use Rattle.std.proofs.Common.{◌≡◌, ℕ, zero, suc, ◌+◌, ◌<◌, ◌≤◌, Bool, true, false, cond, eqb, List, [], length, drop, Some, None, Ok, Err, Result, sym, refl, ap, ◌∙◌, ap₂, arith, length-drop}
+use Rattle.std.proofs.Common.{◌≡◌, ℕ, zero, suc, ◌+◌, ◌<◌, ◌≤◌, Bool, true, false, cond, eqb, List, [], length, drop, Some, None, Ok, Err, Option, Result, sym, refl, ap, ◌∙◌, ap₂, arith, length-drop}
 use Rattle.std.proofs.lemmas.List.{drop-drop}
 use Rattle.refusals.specs.declared.Refusal.{Refusal}
 use Rattle.schedule.specs.declared.fault.Flaw.{Flaw}
 use Rattle.schedule.specs.declared.fault.FileFault.{FileFault}
+use Rattle.schedule.specs.declared.Placed.{Placed}
+use Rattle.schedule.specs.declared.reader.Reader.{Reader}
 use Rattle.schedule.specs.declared.stage.Stage.{Stage}
 use Rattle.schedule.specs.declared.stage.Stage.TheVariants as stage
 use Rattle.schedule.specs.Faults.{told}
-use Rattle.schedule.specs.Items.{PlacedItem}
+use Rattle.schedule.specs.Items.{PlacedItem, shown_placed}
 use Rattle.schedule.specs.Reading.{Measured, record_of, Turn, ends, fails, gives, turn_end, turn_record, turn, Reading, ahead, follow, scan, reading}
-use Rattle.schedule.specs.Readers.{answer, stage_past, place_past, verdict}
+use Rattle.schedule.specs.Readers.{answer, answered, stage_past, place_past, to_come, turn_at, verdict}
 use Rattle.schedule.proofs.Turns.{record_size}
 
 pub never : {A : Type 0} → ◌≡◌ {A = ℕ} 0 1 → A
@@ -87,36 +89,42 @@ answer_fault ends r e = never (cc)
 answer_fault (fails f) r e = (f, refl, let h : told f ≡ r = cc in h)
 answer_fault (gives y s k) r e = never (cc)
 
--- a reader at a place of a file, and where it is after a turn
-pub record Moved (s : Stage) (at : ℕ) (file : List ℕ) (x : PlacedItem) (t : Stage) (to : ℕ) : Type 0 where
-  pub read : reading s at (drop at file) ≡ ahead x (reading t to (drop to file))
-  pub further : at < to
-  pub within : to ≤ length file
+-- a reader before and after a call that gave an item
+pub record Moved (file : List ℕ) (old new : Reader) (x : PlacedItem) : Type 0 where
+  pub read : to_come old ≡ ahead x (to_come new)
+  pub same : new.file.now ≡ file
+  pub further : old.at < new.at
+  pub within : new.at ≤ length file
 
-pub next_item : (s : Stage) (at : ℕ) (file : List ℕ) (x : PlacedItem) (t : Stage) (to : ℕ)
-    → Ok (Some x) ≡ answer (turn s at (drop at file))
-    → t ≡ stage_past s (turn s at (drop at file)) → to ≡ place_past at (turn s at (drop at file)) → Moved s at file x t to
-next_item s at file x t to e et eat =
-    let g = answer_item (turn s at (drop at file)) x e in
+pub next_item : (file : List ℕ) (old new : Reader) (o : Option Placed) (p : Placed) → old.file.now ≡ file → new.file.now ≡ old.file.now → o ≡ Some p
+    → answered (Ok o) ≡ answer (turn_at old) → new.stage ≡ stage_past old.stage (turn_at old) → new.at ≡ place_past old.at (turn_at old)
+    → Moved file old new (shown_placed p)
+next_item file old new o p here there is e et eat =
+    let x : PlacedItem = shown_placed p in
+    let bs : List ℕ = drop old.at old.file.now in
+    let g = answer_item (turn_at old) x (sym (ap (λ (q : Option Placed). answered (Ok q)) is) ∙ e) in
     let k : ℕ = g.1 in
-    let z = turn_size s at (drop at file) x g.0 k g.2 in
-    let l = length-drop at file in
-    let ts : g.0 ≡ t = sym (et ∙ ap (stage_past s) g.2) in
-    let ps : at + k ≡ to = sym (eat ∙ ap (place_past at) g.2) in
+    let z = turn_size old.stage old.at bs x g.0 k g.2 in
+    let l = length-drop old.at old.file.now in
+    let n = ap length here in
+    let ts : g.0 ≡ new.stage = sym (et ∙ ap (stage_past old.stage) g.2) in
+    let ps : old.at + k ≡ new.at = sym (eat ∙ ap (place_past old.at) g.2) in
     record {
       read =
-          reading_gives s at (drop at file) x g.0 k g.2
-          ∙ ap (λ (bs : List ℕ). ahead x (reading g.0 (at + k) bs)) (drop-drop k at file)
-          ∙ ap₂ (λ (u : Stage) (p : ℕ). ahead x (reading u p (drop p file))) ts ps;
+          reading_gives old.stage old.at bs x g.0 k g.2
+          ∙ ap (λ (r : List ℕ). ahead x (reading g.0 (old.at + k) r)) (drop-drop k old.at old.file.now)
+          ∙ ap₂ (λ (u : Stage) (at : ℕ). ahead x (reading u at (drop at old.file.now))) ts ps
+          ∙ ap (λ (f : List ℕ). ahead x (reading new.stage new.at (drop new.at f))) (sym there);
+      same = there ∙ here;
       further = omega (arith, z.0);
       within = omega (arith, z.0, z.1);
     }
 
-pub next_end : (s : Stage) (at : ℕ) (file : List ℕ) → Ok None ≡ answer (turn s at (drop at file)) → reading s at (drop at file) ≡ Ok []
-next_end s at file e = reading_ends s at (drop at file) (answer_end _ e)
+pub next_end : (r : Reader) (o : Option Placed) → o ≡ None → answered (Ok o) ≡ answer (turn_at r) → to_come r ≡ Ok []
+next_end r o is e =
+    reading_ends r.stage r.at (drop r.at r.file.now) (answer_end _ (sym (ap (λ (q : Option Placed). answered (Ok q)) is) ∙ e))
 
-pub next_fault : (s : Stage) (at : ℕ) (file : List ℕ) (f : FileFault)
-    → Err (told f) ≡ answer (turn s at (drop at file)) → verdict (reading s at (drop at file)) ≡ Err (told f)
-next_fault s at file f e =
-    let g = answer_fault (turn s at (drop at file)) (told f) e in
-    ap verdict (reading_fails s at (drop at file) g.0 g.1) ∙ ap (λ (r : Refusal). Err r) g.2
+pub next_fault : (r : Reader) (f : FileFault) → answered (Err f) ≡ answer (turn_at r) → verdict (to_come r) ≡ Err (told f)
+next_fault r f e =
+    let g = answer_fault (turn_at r) (told f) e in
+    ap verdict (reading_fails r.stage r.at (drop r.at r.file.now) g.0 g.1) ∙ ap (λ (t : Refusal). Err t) g.2
