@@ -55,6 +55,7 @@ impl<'a> Reader<'a> {
 
     // The next schedule record with its place, or none at the end of the file.
     // A fault is met again at the next call, so this is no `Iterator`: its items would have no end.
+    #[tactic(auto, using(crate::proofs::Turns::turn_past_end, crate::proofs::Turns::turn_here, crate::proofs::Turns::record_size))]
     pub fn next(&mut self) -> Result<Option<Placed<'a>>, FileFault>
         ensures answer { answered result ≡ answer (turn_at self.old) }
         ensures stage { self.new.stage ≡ stage_past self.old.stage (turn_at self.old) }
