@@ -9,6 +9,7 @@ use schedule::FileFault;
 use settings::SettingsFault;
 use std::fmt;
 
+// Not the fault of a writer, whose second case is lent memory that is too small.
 #[derive(Clone, Copy)]
 pub enum Fault {
     // the file itself is wrong

@@ -7,7 +7,7 @@ ghost use Rattle.judge.specs.Judging.{outcome, surveyed, said_of, admitted, judg
 
 use crate::contents::Contents;
 use crate::fault::Fault;
-use schedule::{FileFault, MOST_BYTES, Reader};
+use schedule::{FileFault, Reader};
 use settings::{Settings, SettingsFault};
 
 // What the file says where it is accepted, or the first fault that applies.
@@ -31,11 +31,8 @@ fn admit(contents: &Contents) -> Result<(), SettingsFault>
 fn survey(file: &[u8]) -> Result<Contents, FileFault>
     ensures { surveyed result ≡ said_of nothing (read_of file.now) }
 {
-    if file.len() > MOST_BYTES {
-        return Err(FileFault::Oversize);
-    }
+    let mut reader = Reader::open(file)?;
     let mut contents = Contents::new();
-    let mut reader = Reader::new(file);
     while let Some(placed) = reader.next()? {
         contents.note(&placed.item);
     }

@@ -1,8 +1,8 @@
 // Reads a schedule file record by record, in one pass and with no memory of its own.
-ghost use Rattle.std.specs.Prelude.{◌≡◌, Ok, Err};
+ghost use Rattle.std.specs.Prelude.{◌≡◌, ◌≤◌, length, Ok, Err, IfOk, MatchResult};
 ghost use Rattle.schedule.specs.declared.stage.Stage.TheVariants.{Settings};
-ghost use Rattle.schedule.specs.Reading.{record_of};
-ghost use Rattle.schedule.specs.Readers.{measured_of, turn_at, answer, answered, stage_past, place_past};
+ghost use Rattle.schedule.specs.Reading.{record_of, read_of, most_bytes};
+ghost use Rattle.schedule.specs.Readers.{measured_of, to_come, turn_at, answer, answered, stage_past, place_past};
 
 use crate::fault::{FileFault, Flaw};
 use crate::frame::read_frame;
@@ -51,6 +51,18 @@ impl<'a> Reader<'a> {
             at: 0,
             stage: Stage::Settings,
         }
+    }
+
+    // A reader at the start of a file, unless that is longer than a file may be.
+    pub fn open(file: &'a [u8]) -> Result<Reader<'a>, FileFault>
+        ensures read { MatchResult result (λ r. to_come r ≡ read_of file.now) (λ e. read_of file.now ≡ Err e) }
+        ensures start { IfOk result (λ r. (r.file.now ≡ file.now) × (r.at ≡ 0)) }
+        ensures short { IfOk result (λ _. length file.now ≤ most_bytes) }
+    {
+        if file.len() > MOST_BYTES {
+            return Err(FileFault::Oversize);
+        }
+        Ok(Reader::new(file))
     }
 
     // The next schedule record with its place, or none at the end of the file.

@@ -6,17 +6,14 @@ ghost use Rattle.schedule.specs.Collecting.{Collected};
 
 use crate::Placed;
 use crate::fault::{FileFault, ReadFault};
-use crate::reader::{MOST_BYTES, Reader};
+use crate::reader::Reader;
 use std::alloc::Global;
 
 // Whether the file is right from end to end, or its first fault.
 pub fn check(file: &[u8]) -> Result<(), FileFault>
     ensures { checked result ≡ verdict (read_of file.now) }
 {
-    if file.len() > MOST_BYTES {
-        return Err(FileFault::Oversize);
-    }
-    let mut reader = Reader::new(file);
+    let mut reader = Reader::open(file)?;
     while let Some(_) = reader.next()? {}
     Ok(())
 }

@@ -4,7 +4,7 @@ use Rattle.schedule.specs.Items.{shown_placed}
 use Rattle.schedule.specs.Readers.{to_come}
 use Rattle.schedule.proofs.Readings.{Moved, next_item, next_end, next_fault}
 use Rattle.judge.specs.declared.contents.Contents.{Contents}
-use Rattle.judge.specs.Contents.{noted, steps}
+use Rattle.judge.specs.Contents.{steps}
 use Rattle.judge.specs.Judging.{said_of}
 use Rattle.judge.proofs.Gathering.{said_ahead, said_fault, steps_noted}
 use Rattle.judge.proofs.judging.survey.Goals as goal
@@ -15,7 +15,7 @@ moved c = next_item _ _ _ _ _ c.loop-placed.invariant.1 c.next.ensures.file c.in
 
 pub returns-in_err-placed : goal.returns-in_err-placed
 returns-in_err-placed c =
-    let p = err_from_is_err_and c.from_residual.result c.from_residual.ensures.1 in
+    let p = err_from_is_err_and c.from_residual-in_err-placed.result c.from_residual-in_err-placed.ensures.1 in
     let r = c.loop-placed.reader in
     rw (p.1, p.2)
     (sym (c.loop-placed.invariant.0

@@ -12,7 +12,7 @@ moved c = next_item _ _ _ _ _ c.loop.invariant.1 c.next.ensures.file c.in-Some.i
 
 pub returns-in_err-next : goal.returns-in_err-next
 returns-in_err-next c =
-    let p = err_from_is_err_and c.from_residual.result c.from_residual.ensures.1 in
+    let p = err_from_is_err_and c.from_residual-in_err-next.result c.from_residual-in_err-next.ensures.1 in
     rw (p.1, p.2) (sym (c.loop.invariant.0 ∙ next_fault c.loop.reader c.in_err-next.field-0.0 c.in_err-next.ensures.answer))
 
 pub loop-smaller : goal.loop-smaller
