@@ -13,7 +13,7 @@ use Rattle.schedule.specs.declared.fault.Flaw.{Flaw}
 use Rattle.schedule.specs.declared.fault.Flaw.TheVariants as flaw
 use Rattle.schedule.specs.declared.stage.Stage.{Stage}
 use Rattle.schedule.specs.Items.{Item, start}
-use Rattle.schedule.specs.Kinds.{Start, class_or, body_of}
+use Rattle.schedule.specs.Kinds.{Start, class_or, item_of, body_of}
 use Rattle.schedule.specs.Rules.{wrong, unknown, start_wrong, wrong_length, misplaced, start_out, judged, start_judged}
 use Rattle.schedule.specs.Writing.{onward, stage_past_item}
 
@@ -22,33 +22,32 @@ abbrev pub said : Result Unit Flaw → Item → Result Item Flaw
 said (Ok u) i = Ok i
 said (Err f) i = Err f
 
-by_tests : (x : Result Unit Misfit) (m d : Bool) (i : Item)
-    → ◌≡◌ {A = Result Item Flaw}
-    (cond (wrong x) (Err flaw.Length) (cond m (Err flaw.Order) (cond (cond (unknown x) true (not d)) (Err flaw.Range) (Ok i))))
-    (said (cond (wrong x) (Err flaw.Length) (cond m (Err flaw.Order) (cond (unknown x) (Err flaw.Range) (cond d (Ok tt) (Err flaw.Range))))) i)
-by_tests (Ok u) true d i = refl
-by_tests (Ok u) false true i = refl
-by_tests (Ok u) false false i = refl
-by_tests (Err WrongLength) m d i = refl
-by_tests (Err UnknownForm) true d i = refl
-by_tests (Err UnknownForm) false d i = refl
+by_tests : (a b c : Bool) (i : Item)
+    → ◌≡◌ {A = Result Item Flaw} (cond a (Err flaw.Length) (cond b (Err flaw.Order) (cond c (Err flaw.Range) (Ok i))))
+      (said (cond a (Err flaw.Length) (cond b (Err flaw.Order) (cond c (Err flaw.Range) (Ok tt)))) i)
+by_tests true b c i = refl
+by_tests false true c i = refl
+by_tests false false true i = refl
+by_tests false false false i = refl
 
 pub judged_start : (s : Stage) (c : Class) (bs : List ℕ) → 6 ≤ length bs → class_of (two bs 0) ≡ Some c
     → judged s Start bs ≡ said (start_judged s c (two bs 2) (two bs 4) (drop 6 bs)) (start c (two bs 2) (two bs 4) (drop 6 bs))
 judged_start s c bs h e =
     let x : Result Unit Misfit = shape_of c (drop 6 bs) in
+    let i : Item = start c (two bs 2) (two bs 4) (drop 6 bs) in
+    let out : Bool = cond (unknown x) true (not (start_in_range (two bs 2) (two bs 4))) in
     let two_held : ltb (length bs) 2 ≡ false = grind arith in
     let six_held : ltb (length bs) 6 ≡ false = grind arith in
     let l : wrong_length s Start bs ≡ wrong x =
     ap (λ (b : Bool). cond b true (start_wrong (class_of (two bs 0)) bs)) two_held
     ∙ ap (λ (o : Option Class). start_wrong o bs) e ∙ ap (λ (b : Bool). cond b true (wrong x)) six_held in
-    let r : start_out (class_of (two bs 0)) bs ≡ cond (unknown x) true (not (start_in_range (two bs 2) (two bs 4))) =
-    ap (λ (o : Option Class). start_out o bs) e in
-    let i : start (class_or (class_of (two bs 0))) (two bs 2) (two bs 4) (drop 6 bs) ≡ start c (two bs 2) (two bs 4) (drop 6 bs) =
-    ap (λ (o : Option Class). start (class_or o) (two bs 2) (two bs 4) (drop 6 bs)) e in
-    ap (λ (b : Bool). cond b (Err flaw.Length) (cond (misplaced s Start) (Err flaw.Order) (cond (start_out (class_of (two bs 0)) bs) (Err flaw.Range) (Ok (start (class_or (class_of (two bs 0))) (two bs 2) (two bs 4) (drop 6 bs)))))) l
-    ∙ ap₂ (λ (b : Bool) (j : Item). cond (wrong x) (Err flaw.Length) (cond (misplaced s Start) (Err flaw.Order) (cond b (Err flaw.Range) (Ok j)))) r i
-    ∙ by_tests x (misplaced s Start) (start_in_range (two bs 2) (two bs 4)) (start c (two bs 2) (two bs 4) (drop 6 bs))
+    tests (wrong_length s Start bs) (start_out (class_of (two bs 0)) bs) (item_of Start bs) (wrong x) out i l
+    (ap (λ (o : Option Class). start_out o bs) e) (ap (λ (o : Option Class). start (class_or o) (two bs 2) (two bs 4) (drop 6 bs)) e)
+  where
+    tests : (a c : Bool) (i : Item) (a' c' : Bool) (i' : Item) → a ≡ a' → c ≡ c' → i ≡ i' → ◌≡◌ {A = Result Item Flaw}
+        (cond a (Err flaw.Length) (cond (misplaced s Start) (Err flaw.Order) (cond c (Err flaw.Range) (Ok i))))
+        (said (cond a' (Err flaw.Length) (cond (misplaced s Start) (Err flaw.Order) (cond c' (Err flaw.Range) (Ok tt)))) i')
+    tests a c i a' c' i' p q r = rw (p, q, r) (by_tests a' (misplaced s Start) c' i')
 
 class_back : (c : Class) → class_of (class_number c) ≡ Some c
 class_back Response = refl

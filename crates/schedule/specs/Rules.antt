@@ -94,8 +94,8 @@ abbrev pub start_judged : Stage → Class → ℕ → ℕ → List ℕ → Resul
 start_judged s c t k r =
     cond (wrong (shape_of c r)) (Err flaw.Length)
     (cond (misplaced s Start) (Err flaw.Order)
-    (cond (unknown (shape_of c r)) (Err flaw.Range)
-    (cond (start_in_range t k) (Ok tt) (Err flaw.Range))))
+    (cond (cond (unknown (shape_of c r)) true (not (start_in_range t k))) (Err flaw.Range)
+    (Ok tt)))
 
 abbrev pub of_kind : Stage → List ℕ → Option Kind → Result Item Flaw
 of_kind s bs None = Err flaw.Kind
