@@ -5,10 +5,10 @@ use Rattle.std.specs.List.{AllByRecursion}
 use Rattle.fields.specs.Numbers.{four, le4}
 use Rattle.fields.proofs.Spelling.{four_le4, four_front, four_only, four_drop}
 use Rattle.records.specs.declared.class.Class.TheVariants as classes
-use Rattle.records.specs.Responses.{response_of, response_bytes, Held}
+use Rattle.records.specs.Responses.{response_of, response_bytes, Within}
 use Rattle.records.specs.Spellings.{ReadsBack, OneSpelling, ReadWhereItFits}
 
-pub reads_back : ReadsBack response_of Held response_bytes
+pub reads_back : ReadsBack response_of Within response_bytes
 reads_back r h = ap₂ (λ (x y : ℕ). Some (record { gain = x; corner = y })) (four_le4 r.gain h.0) (four_le4 r.corner h.1)
 
 -- eight bytes are two numbers

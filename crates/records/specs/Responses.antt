@@ -16,5 +16,5 @@ abbrev pub response_text : Response → List ℕ
 response_text r = decimal r.gain ++ (codes "/" ++ decimal r.corner)
 
 -- the numbers of a response fit their 32 bits
-abbrev pub Held : Response → Type 0
-Held r = (r.gain < 2 ^ 32) × (r.corner < 2 ^ 32)
+abbrev pub Within : Response → Type 0
+Within r = (r.gain < 2 ^ 32) × (r.corner < 2 ^ 32)

@@ -1,7 +1,7 @@
 // A response: a gain and a corner period.
 ghost use Rattle.std.specs.Prelude.{◌≡◌, Some};
 ghost use Rattle.records.specs.declared.class.Class.TheVariants as classes;
-ghost use Rattle.records.specs.Responses.{response_of, response_bytes, response_text, Held};
+ghost use Rattle.records.specs.Responses.{response_of, response_bytes, response_text, Within};
 
 use crate::delivered::Delivered;
 use std::fmt;
@@ -19,7 +19,7 @@ impl Delivered for Response {
 
     ghost spelled = { response_bytes };
 
-    ghost held = { Held };
+    ghost held = { Within };
 
     #[tactic(auto, using(crate::proofs::Responses::reads_back, crate::proofs::Responses::one_spelling, crate::proofs::Responses::read_where_it_fits))]
     fn from_bytes(bytes: &[u8]) -> Option<Response> {

@@ -5,7 +5,6 @@ use Rattle.fields.proofs.Spelling.{two_le2_more}
 use Rattle.records.specs.declared.class.Class.{Class}
 use Rattle.records.specs.declared.class.Class.TheVariants.{Response, Gas}
 use Rattle.records.specs.declared.class.Misfit.{Misfit}
-use Rattle.records.specs.declared.class.Misfit.TheVariants.{WrongLength, UnknownForm}
 use Rattle.records.specs.Classes.{class_of, class_number}
 use Rattle.records.specs.Shapes.{shape_of}
 use Rattle.settings.specs.Admission.{start_in_range}
@@ -24,7 +23,7 @@ said (Err f) i = Err f
 
 by_tests : (a b c : Bool) (i : Item)
     → ◌≡◌ {A = Result Item Flaw} (cond a (Err flaw.Length) (cond b (Err flaw.Order) (cond c (Err flaw.Range) (Ok i))))
-      (said (cond a (Err flaw.Length) (cond b (Err flaw.Order) (cond c (Err flaw.Range) (Ok tt)))) i)
+    (said (cond a (Err flaw.Length) (cond b (Err flaw.Order) (cond c (Err flaw.Range) (Ok tt)))) i)
 by_tests true b c i = refl
 by_tests false true c i = refl
 by_tests false false true i = refl

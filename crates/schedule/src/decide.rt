@@ -27,7 +27,7 @@ fn station_step<'a>(kind: u16, station: u16) -> Record<'a>
 }
 
 impl Stage {
-    // The record of a frame, by the number of its kind.
+    // The record of a frame. A kind stays a number, as the file has it, so that ranges and guards tell kinds apart.
     pub(crate) fn decide<'a>(self, frame: Frame<'a>) -> Result<Record<'a>, Flaw>
         ensures { shown_of result ≡ decided self frame.entry.kind frame.entry.body.now }
     {
