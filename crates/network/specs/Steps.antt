@@ -1,11 +1,10 @@
 -- A step: the state after it, and what the caller is told.
-use Rattle.std.specs.Prelude.{ℕ, zero, suc, Bool, true, false, cond, List, [], ◌∷◌, length, Some, None, Option}
+use Rattle.std.specs.Prelude.{ℕ, zero, suc, Bool, true, false, cond, List, [], ◌∷◌, length, Some, None, Option, Ok, Err, Result}
 use Rattle.network.specs.declared.entry.Entry.{Entry}
 use Rattle.network.specs.declared.fault.StepFault.{StepFault}
 use Rattle.network.specs.declared.operation.Operation.{Operation}
 use Rattle.network.specs.declared.operation.Operation.TheVariants.{Idle, PhaseOne, PhaseTwo}
-use Rattle.network.specs.declared.outcome.Outcome.{Outcome}
-use Rattle.network.specs.declared.outcome.Outcome.TheVariants.{Done, Refused}
+use Rattle.network.specs.declared.outcome.Done.{Done}
 use Rattle.network.specs.declared.step.Step.{Step}
 use Rattle.network.specs.Changes.{changed, said, actor}
 use Rattle.network.specs.Posting.{send}
@@ -44,10 +43,14 @@ module _ {R : Type 0} where
   ended_at q s t =
       cond (has_ended (s.stations q).operation (t.stations q).operation) (element t.log.entries (t.log.latest q)) None
 
-  abbrev pub told_outcome : Option StepFault → Setup R → Step R → State R → Outcome R
-  told_outcome (Some f) u x s = Refused f
-  told_outcome None u x s = Done (length (step_mails u x s)) s.next (ended_at (actor x) s (next u x s))
+  -- what an accepted step came to
+  abbrev pub done : Setup R → Step R → State R → Done R
+  done u x s = record { sent = length (step_mails u x s); from = s.next; ended = ended_at (actor x) s (next u x s) }
+
+  abbrev pub told_outcome : Option StepFault → Setup R → Step R → State R → Result (Done R) StepFault
+  told_outcome (Some f) u x s = Err f
+  told_outcome None u x s = Ok (done u x s)
 
   -- what the caller is told of a step
-  unfoldable pub outcome : Setup R → Step R → State R → Outcome R
+  unfoldable pub outcome : Setup R → Step R → State R → Result (Done R) StepFault
   outcome u x s = told_outcome (refusal u x s) u x s

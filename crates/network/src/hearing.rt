@@ -30,6 +30,7 @@ impl<R: Copy> Station<R, Stations> {
     }
 
     // Whether every number that the message could raise can rise.
+    #[tactic(auto, unfolding(crate::specs::Limits::can_rise))]
     fn can_rise(&self, content: &Content<R, Stations>) -> bool
         ensures { result ≡ can_rise (shown self.now) (shown_content content.now) }
     {
@@ -46,6 +47,7 @@ impl<R: Copy> Station<R, Stations> {
     }
 
     // The eleven messages.
+    #[tactic(auto, unfolding(crate::specs::Hearing::hear, crate::specs::Saying::says, crate::specs::Limits::can_rise))]
     fn hear(
         &mut self,
         me: u8,

@@ -29,7 +29,7 @@ pub use fault::{LogFault, StepFault};
 pub use known::Known;
 pub use letter::{Letter, Speech, To};
 pub use operation::{Kind, Operation, Task};
-pub use outcome::Outcome;
+pub use outcome::{Done, Outcome};
 pub use register::Register;
 pub use stamp::Stamp;
 pub use station::{Life, Station};

@@ -16,6 +16,7 @@ use stations::Stations;
 
 impl<R: Copy> Station<R, Stations> {
     // Takes the offer where its stamp is higher.
+    #[tactic(auto, unfolding(crate::specs::Stamps::newer))]
     pub(crate) fn take_offer(&mut self, offer: Register<R>)
         ensures { shown self.new ≡ take_offer offer (shown self.old) }
     {

@@ -3,12 +3,14 @@ use crate::entry::Entry;
 use crate::fault::StepFault;
 
 #[derive(Clone, Copy)]
-pub enum Outcome<R> {
-    // how many messages were sent, the number of the first (the next one where none was), and the operation that ended
-    Done {
-        sent: u8,
-        from: u32,
-        ended: Option<Entry<R>>,
-    },
-    Refused(StepFault),
+pub struct Done<R> {
+    // how many messages were sent
+    pub sent: u8,
+    // the number of the first, or the next one where none was
+    pub from: u32,
+    // the operation that ended
+    pub ended: Option<Entry<R>>,
 }
+
+// A step is done, or refused.
+pub type Outcome<R> = Result<Done<R>, StepFault>;

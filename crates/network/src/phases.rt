@@ -94,6 +94,7 @@ impl<R: Copy> Station<R, Stations> {
     }
 
     // Counts a response in phase one with an equal tag, and says whether phase two began.
+    #[tactic(auto, unfolding(crate::specs::Stamps::newer))]
     pub(crate) fn count_response(
         &mut self,
         me: u8,
