@@ -18,7 +18,6 @@ mod phases;
 mod register;
 mod speaking;
 mod stamp;
-mod stamps;
 mod station;
 mod step;
 
