@@ -19,31 +19,32 @@ use Rattle.network.specs.Hearing.{hear}
 use Rattle.network.specs.Keeping.{tag_of, with_life, with_crashed, with_operation, newcomer}
 use Rattle.network.specs.Knowing.{Set, member_count}
 use Rattle.network.specs.Logs.{open_entry, at_latest, count_one, count_two, close}
+use Rattle.network.specs.Polls.{new_poll}
 use Rattle.network.specs.Saying.{letters, to_all, says}
 use Rattle.network.specs.States.{Copy, Setup, State, present_total, with_stations, with_waits, with_log, with_book}
 
 module _ {R : Type 0} where
   -- an operation begins: the next tag, the base of the members now known, and no replies
   abbrev pub begin : Task R → Station R Set → Station R Set
-  begin t x = with_operation (PhaseOne t (tag_of x.operation + 1) (member_count x.known) 0) x
+  begin t x = with_operation (PhaseOne t (new_poll (tag_of x.operation + 1) (member_count x.known))) x
 
   -- the log entry of an operation that hears a response: a reply that counts is shown
   abbrev pub log_response : ℕ → Operation R → Entry R → Entry R
   log_response tag (Idle own) e = e
-  log_response tag (PhaseOne t own base replies) e = cond (tag == own) (count_one e) e
-  log_response tag (PhaseTwo k own base replies kept) e = e
+  log_response tag (PhaseOne t poll) e = cond (tag == poll.tag) (count_one e) e
+  log_response tag (PhaseTwo k poll kept) e = e
 
   -- the log entry of an operation in phase two that counted an ack: it may have ended
   abbrev pub log_counted : ℕ → R → Operation R → Entry R → Entry R
   log_counted clock kept (Idle own) e = close kept clock e
-  log_counted clock kept (PhaseOne t own base replies) e = count_two e
-  log_counted clock kept (PhaseTwo k own base replies kept_too) e = count_two e
+  log_counted clock kept (PhaseOne t poll) e = count_two e
+  log_counted clock kept (PhaseTwo k poll kept_too) e = count_two e
 
   -- the log entry of an operation that hears an ack, by the operation after
   abbrev pub log_ack : ℕ → ℕ → Operation R → Operation R → Entry R → Entry R
   log_ack clock tag (Idle own) after e = e
-  log_ack clock tag (PhaseOne t own base replies) after e = e
-  log_ack clock tag (PhaseTwo k own base replies kept) after e = cond (tag == own) (log_counted clock kept after e) e
+  log_ack clock tag (PhaseOne t poll) after e = e
+  log_ack clock tag (PhaseTwo k poll kept) after e = cond (tag == poll.tag) (log_counted clock kept after e) e
 
   -- the latest entry of a station that hears a message: x before, y after
   unfoldable pub log_heard : ℕ → Content R Set → Station R Set → Station R Set → Entry R → Entry R

@@ -14,11 +14,8 @@ use Rattle.network.specs.declared.register.Register.{Register}
 use Rattle.network.specs.declared.station.Station.{Station}
 use Rattle.network.specs.Keeping.{with_joined, with_known, with_register, with_echoes, with_operation}
 use Rattle.network.specs.Knowing.{Set, present_count, member_count, note_entered, note_joined, note_left, add_known}
+use Rattle.network.specs.Polls.{new_poll, with_reply, quorum}
 use Rattle.network.specs.Stamps.{newer, next_stamp}
-
--- replies are a quorum of a base: 100 × replies ≥ β × base
-abbrev pub quorum : Choice → ℕ → ℕ → Bool
-quorum c base replies = nat_le (c.beta * base) (100 * replies)
 
 -- echoes are enough to join, once a bound is set: 100 × echoes ≥ γ × bound
 abbrev pub enough_echoes : Choice → ℕ → Option ℕ → Bool
@@ -68,22 +65,22 @@ module _ {R : Type 0} where
   abbrev pub begin_two : ℕ → Task R → ℕ → Station R Set → Station R Set
   begin_two me t tag x =
       let v = kept_register me t x.register in
-      with_operation (PhaseTwo (kind_of t) tag (member_count x.known) 0 v.value) (with_register v x)
+      with_operation (PhaseTwo (kind_of t) (new_poll tag (member_count x.known)) v.value) (with_register v x)
 
   -- a response counts in phase one with an equal tag: the offer is taken, and replies rise by 1
   abbrev pub count_response : Choice → ℕ → Register R → ℕ → Operation R → Station R Set → Station R Set
   count_response c me offer tag (Idle own) x = x
-  count_response c me offer tag (PhaseTwo k own base replies kept) x = x
-  count_response c me offer tag (PhaseOne t own base replies) x =
+  count_response c me offer tag (PhaseTwo k poll kept) x = x
+  count_response c me offer tag (PhaseOne t poll) x =
       let y = take_offer offer x in
-      cond (tag == own) (cond (quorum c base (replies + 1)) (begin_two me t own y) (with_operation (PhaseOne t own base (replies + 1)) y)) x
+      cond (tag == poll.tag) (cond (quorum c (with_reply poll)) (begin_two me t poll.tag y) (with_operation (PhaseOne t (with_reply poll)) y)) x
 
   -- an ack counts in phase two with an equal tag: at a quorum the operation ends
   abbrev pub count_ack : Choice → ℕ → Operation R → Station R Set → Station R Set
   count_ack c tag (Idle own) x = x
-  count_ack c tag (PhaseOne t own base replies) x = x
-  count_ack c tag (PhaseTwo k own base replies kept) x =
-      cond (tag == own) (cond (quorum c base (replies + 1)) (with_operation (Idle own) x) (with_operation (PhaseTwo k own base (replies + 1) kept) x)) x
+  count_ack c tag (PhaseOne t poll) x = x
+  count_ack c tag (PhaseTwo k poll kept) x =
+      cond (tag == poll.tag) (cond (quorum c (with_reply poll)) (with_operation (Idle poll.tag) x) (with_operation (PhaseTwo k (with_reply poll) kept) x)) x
 
   -- what station `me` becomes on each of the eleven messages
   unfoldable pub hear : Choice → ℕ → Content R Set → Station R Set → Station R Set

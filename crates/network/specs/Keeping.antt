@@ -24,13 +24,13 @@ is_present Left = false
 -- an operation is under way in phase one and in phase two
 abbrev pub under_way : {R : Type 0} → Operation R → Bool
 under_way (Idle tag) = false
-under_way (PhaseOne task tag base replies) = true
-under_way (PhaseTwo kind tag base replies kept) = true
+under_way (PhaseOne task poll) = true
+under_way (PhaseTwo kind poll kept) = true
 
 abbrev pub tag_of : {R : Type 0} → Operation R → ℕ
 tag_of (Idle tag) = tag
-tag_of (PhaseOne task tag base replies) = tag
-tag_of (PhaseTwo kind tag base replies kept) = tag
+tag_of (PhaseOne task poll) = poll.tag
+tag_of (PhaseTwo kind poll kept) = poll.tag
 
 module _ {R S : Type 0} where
   -- present and not crashed: it hears, and it is sent to

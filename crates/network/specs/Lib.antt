@@ -1,6 +1,7 @@
 pub mod Faults
 pub mod Stamps
 pub mod Knowing
+pub mod Polls
 pub mod Keeping
 pub mod Hearing
 pub mod Saying

@@ -15,8 +15,8 @@ may_rise n = nat_lt n 4294967295
 -- the replies of an operation, if it counts any
 abbrev pub replies_may_rise : {R : Type 0} → Operation R → Bool
 replies_may_rise (Idle tag) = true
-replies_may_rise (PhaseOne task tag base replies) = may_rise replies
-replies_may_rise (PhaseTwo kind tag base replies kept) = may_rise replies
+replies_may_rise (PhaseOne task poll) = may_rise poll.replies
+replies_may_rise (PhaseTwo kind poll kept) = may_rise poll.replies
 
 module _ {R : Type 0} where
   -- every number that a message could raise: echoes; replies, and the stamp held or offered, that a write goes on from

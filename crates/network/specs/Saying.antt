@@ -25,11 +25,11 @@ to_only p m = record { to = Only p; content = m }
 
 -- whether an operation went from phase one to phase two
 abbrev pub began_two : {R : Type 0} → Operation R → Operation R → Bool
-began_two (PhaseOne t a b r) (PhaseTwo k c d e f) = true
-began_two (PhaseOne t a b r) (PhaseOne u c d e) = false
-began_two (PhaseOne t a b r) (Idle c) = false
+began_two (PhaseOne t a) (PhaseTwo k c v) = true
+began_two (PhaseOne t a) (PhaseOne u c) = false
+began_two (PhaseOne t a) (Idle c) = false
 began_two (Idle a) o = false
-began_two (PhaseTwo k a b r v) o = false
+began_two (PhaseTwo k a v) o = false
 
 module _ {R : Type 0} where
   -- what station `me` says: x before, y after it has heard

@@ -20,10 +20,10 @@ element (x ∷ xs) (suc i) = element xs i
 -- an operation in phase two became idle
 abbrev pub has_ended : {R : Type 0} → Operation R → Operation R → Bool
 has_ended (Idle a) o = false
-has_ended (PhaseOne t a b r) o = false
-has_ended (PhaseTwo k a b r v) (Idle c) = true
-has_ended (PhaseTwo k a b r v) (PhaseOne t c d e) = false
-has_ended (PhaseTwo k a b r v) (PhaseTwo l c d e f) = false
+has_ended (PhaseOne t a) o = false
+has_ended (PhaseTwo k a v) (Idle c) = true
+has_ended (PhaseTwo k a v) (PhaseOne t c) = false
+has_ended (PhaseTwo k a v) (PhaseTwo l c w) = false
 
 module _ {R : Type 0} where
   -- the state after an accepted step

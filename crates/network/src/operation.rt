@@ -2,6 +2,8 @@
 ghost use Rattle.std.specs.Prelude.{◌≡◌};
 ghost use Rattle.network.specs.Hearing.{kind_of};
 
+use crate::poll::Poll;
+
 #[derive(Clone, Copy)]
 pub enum Kind {
     Read,
@@ -17,24 +19,11 @@ pub enum Task<R> {
 
 #[derive(Clone, Copy)]
 pub enum Operation<R> {
-    Idle {
-        tag: u32,
-    },
+    Idle { tag: u32 },
     // asks for records: replies are response messages
-    PhaseOne {
-        task: Task<R>,
-        tag: u32,
-        base: u16,
-        replies: u32,
-    },
+    PhaseOne { task: Task<R>, poll: Poll },
     // spreads the kept record: replies are acks
-    PhaseTwo {
-        kind: Kind,
-        tag: u32,
-        base: u16,
-        replies: u32,
-        kept: R,
-    },
+    PhaseTwo { kind: Kind, poll: Poll, kept: R },
 }
 
 impl<R: Copy> Task<R> {

@@ -1,14 +1,16 @@
 // What a station does for its own operation: it begins, counts responses in phase one and acks in phase two.
 ghost use Rattle.std.specs.Prelude.{◌≡◌, ◌+◌, true, if◌then◌else◌, Some, None};
 ghost use Rattle.network.specs.Changes.{begin};
-ghost use Rattle.network.specs.Hearing.{kept_register, quorum, begin_two, count_response, count_ack};
+ghost use Rattle.network.specs.Hearing.{kept_register, begin_two, count_response, count_ack};
 ghost use Rattle.network.specs.Keeping.{tag_of, with_operation};
 ghost use Rattle.network.specs.Limits.{may_rise, replies_may_rise, can_begin};
+ghost use Rattle.network.specs.Polls.{with_reply, quorum};
 ghost use Rattle.network.specs.Saying.{began_two};
 ghost use Rattle.network.specs.Shown.{shown};
 ghost use Rattle.network.specs.declared.operation.Operation.TheVariants.{PhaseOne};
 
 use crate::operation::{Operation, Task};
+use crate::poll::Poll;
 use crate::register::Register;
 use crate::stamp::Stamp;
 use crate::station::Station;
@@ -40,8 +42,7 @@ impl<R: Copy> Operation<R> {
     {
         match self {
             Operation::Idle { tag } => *tag,
-            Operation::PhaseOne { tag, .. } => *tag,
-            Operation::PhaseTwo { tag, .. } => *tag,
+            Operation::PhaseOne { poll, .. } | Operation::PhaseTwo { poll, .. } => poll.tag,
         }
     }
 
@@ -51,8 +52,7 @@ impl<R: Copy> Operation<R> {
     {
         match self {
             Operation::Idle { .. } => true,
-            Operation::PhaseOne { replies, .. } => *replies < u32::MAX,
-            Operation::PhaseTwo { replies, .. } => *replies < u32::MAX,
+            Operation::PhaseOne { poll, .. } | Operation::PhaseTwo { poll, .. } => poll.can_rise(),
         }
     }
 }
@@ -71,9 +71,7 @@ impl<R: Copy> Station<R, Stations> {
         let base = self.known.members();
         self.operation = Operation::PhaseOne {
             task,
-            tag,
-            base,
-            replies: 0,
+            poll: Poll::begin(tag, base),
         };
         Some(tag)
     }
@@ -86,9 +84,7 @@ impl<R: Copy> Station<R, Stations> {
         self.register = task.kept_register(me, self.register);
         self.operation = Operation::PhaseTwo {
             kind: task.kind(),
-            tag,
-            base: self.known.members(),
-            replies: 0,
+            poll: Poll::begin(tag, self.known.members()),
             kept: self.register.value,
         };
     }
@@ -108,45 +104,28 @@ impl<R: Copy> Station<R, Stations> {
         ensures value { result ≡ began_two self.old.operation self.new.operation }
         ensures after { shown self.new ≡ count_response choice.now me offer tag self.old.operation (shown self.old) }
     {
-        if let Operation::PhaseOne {
-            task,
-            tag: own,
-            base,
-            replies,
-        } = self.operation
-        {
-            if tag == own {
+        if let Operation::PhaseOne { task, poll } = self.operation {
+            if tag == poll.tag {
                 self.take_offer(offer);
-                return self.count_reply(me, task, own, base, replies + 1, choice);
+                return self.count_reply(me, task, poll, choice);
             }
         }
         false
     }
 
-    // Phase one with so many replies: at a quorum phase two begins.
-    fn count_reply(
-        &mut self,
-        me: u8,
-        task: Task<R>,
-        tag: u32,
-        base: u16,
-        replies: u32,
-        choice: &Choice,
-    ) -> bool
-        requires { may_rise self.old.register.stamp.count ≡ true }
-        ensures value { result ≡ quorum choice.now base replies }
-        ensures after { shown self.new ≡ (if quorum choice.now base replies then begin_two me task tag (shown self.old) else with_operation (PhaseOne task tag base replies) (shown self.old)) }
+    // A reply more in phase one: at a quorum phase two begins.
+    fn count_reply(&mut self, me: u8, task: Task<R>, mut poll: Poll, choice: &Choice) -> bool
+        requires held { may_rise self.old.register.stamp.count ≡ true }
+        requires replies { may_rise poll.replies ≡ true }
+        ensures value { result ≡ quorum choice.now (with_reply poll) }
+        ensures after { shown self.new ≡ (if quorum choice.now (with_reply poll) then begin_two me task poll.tag (shown self.old) else with_operation (PhaseOne task (with_reply poll)) (shown self.old)) }
     {
-        if is_quorum(choice, base, replies) {
-            self.begin_two(me, task, tag);
+        poll.rise();
+        if poll.is_quorum(choice) {
+            self.begin_two(me, task, poll.tag);
             return true;
         }
-        self.operation = Operation::PhaseOne {
-            task,
-            tag,
-            base,
-            replies,
-        };
+        self.operation = Operation::PhaseOne { task, poll };
         false
     }
 
@@ -157,33 +136,18 @@ impl<R: Copy> Station<R, Stations> {
     {
         if let Operation::PhaseTwo {
             kind,
-            tag: own,
-            base,
-            replies,
+            mut poll,
             kept,
         } = self.operation
         {
-            if own == tag {
-                let replies = replies + 1;
-                self.operation = if is_quorum(choice, base, replies) {
+            if poll.tag == tag {
+                poll.rise();
+                self.operation = if poll.is_quorum(choice) {
                     Operation::Idle { tag }
                 } else {
-                    Operation::PhaseTwo {
-                        kind,
-                        tag,
-                        base,
-                        replies,
-                        kept,
-                    }
+                    Operation::PhaseTwo { kind, poll, kept }
                 };
             }
         }
     }
-}
-
-// Whether the replies are the share of the base that ends a phase.
-fn is_quorum(choice: &Choice, base: u16, replies: u32) -> bool
-    ensures { result ≡ quorum choice.now base replies }
-{
-    100 * replies as u64 >= choice.beta as u64 * base as u64
 }

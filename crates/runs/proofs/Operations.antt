@@ -7,6 +7,7 @@ use Rattle.network.specs.declared.entry.Entry.{Entry}
 use Rattle.network.specs.declared.operation.Operation.TheVariants.{PhaseTwo}
 use Rattle.network.specs.declared.operation.Task.{Task}
 use Rattle.network.specs.declared.operation.Task.TheVariants as task
+use Rattle.network.specs.declared.poll.Poll.{Poll}
 use Rattle.network.specs.declared.station.Station.{Station}
 use Rattle.network.specs.Changes.{begin, actor}
 use Rattle.network.specs.Hearing.{hear, kind_of}
@@ -123,7 +124,7 @@ module _ {R : Type 0} (z : Run R) where
     pub was_two : awaits (station z at o.owner) (update (tag o)) ≡ true
     pub over : awaits (station z (suc at) o.owner) (update (tag o)) ≡ false
     pub end : e.end ≡ Some (clock z at)
-    pub value : (k : _) (b r : ℕ) (v : R) → (station z at o.owner).operation ≡ PhaseTwo k (tag o) b r v → e.value ≡ v
+    pub value : (k : _) (n : Poll) (v : R) → (station z at o.owner).operation ≡ PhaseTwo k n v → e.value ≡ v
 
   -- the operation is under way: its entry is the owner's latest, has not ended and shows what it opened with
   record Going {x : ℕ} (o : Logged x) (i : ℕ) (e : Entry R) : Type 0 where
@@ -187,7 +188,7 @@ module _ {R : Type 0} (z : Run R) where
                 was_two = subst (λ t. in_two t (station z i own).operation ≡ true) (owner_tag g.low) k.was_two;
                 over = idle_not_two (station z (suc i) own).operation (tag o) b;
                 end = k.end;
-                value = λ kind b r v e. k.value kind (tag o) b r v e;
+                value = k.value;
               })
         ]
 

@@ -40,8 +40,8 @@ is_write (task.Write r) = true
 
 abbrev pub to_write : {R : Type 0} → Operation R → Bool
 to_write (Idle tag) = false
-to_write (PhaseOne task tag base replies) = is_write task
-to_write (PhaseTwo kind tag base replies kept) = false
+to_write (PhaseOne task poll) = is_write task
+to_write (PhaseTwo kind poll kept) = false
 
 module _ {R : Type 0} where
   -- a response is given by one who has joined, and offers its register

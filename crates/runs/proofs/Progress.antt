@@ -6,15 +6,17 @@ use Rattle.std.proofs.lemmas.Bool.{cases_lt, eq-eqb}
 use Rattle.network.specs.declared.entry.Entry.{Entry}
 use Rattle.network.specs.declared.operation.Kind.{Kind}
 use Rattle.network.specs.declared.operation.Operation.TheVariants.{PhaseOne, PhaseTwo}
+use Rattle.network.specs.declared.poll.Poll.{Poll}
 use Rattle.network.specs.declared.register.Register.{Register}
 use Rattle.network.specs.Hearing.{kind_of}
 use Rattle.network.specs.Keeping.{tag_of}
 use Rattle.network.specs.Knowing.{member_count}
+use Rattle.network.specs.Polls.{new_poll}
 use Rattle.network.specs.Steps.{element}
 use Rattle.runs.proofs.Positions.{Run, station, onward}
 use Rattle.runs.proofs.Accepted.{some_is_not_none, enters, begins}
 use Rattle.runs.proofs.Changes.{Change, same, comes, fades, begins_one, hears_one, change, unused_blank}
-use Rattle.runs.proofs.Endings.{idle_rank, without_replies, from_one, from_two, hear_steady, hear_turns}
+use Rattle.runs.proofs.Endings.{idle_rank, without_replies, polled, from_one, from_two, hear_steady, hear_turns}
 use Rattle.runs.proofs.LogOverRuns.{entries, latest, busy, open_entry_of}
 use Rattle.runs.proofs.Operations.{Logged, tag, owner_begun, rank_begun, logged, owner_tag, entry_ended}
 use Rattle.runs.proofs.Ranks.{rank_of, rank, rank_query, query_rank, rank_update, update_rank, rank_on, rank_turns}
@@ -60,7 +62,7 @@ module _ {R : Type 0} (z : Run R) where
 
   -- in phase one an operation has the task with which it began
   pub phase_one : {x : ℕ} (o : Logged z x) (i : ℕ) → awaits (station z i o.owner) (query (tag z o)) ≡ true
-      → (b : ℕ) × (r : ℕ) × ((station z i o.owner).operation ≡ PhaseOne o.task (tag z o) b r)
+      → (b : ℕ) × (r : ℕ) × ((station z i o.owner).operation ≡ PhaseOne o.task (polled (tag z o) b r))
   phase_one o i h =
       let high = rank_query (station z i o.owner) (tag z o) h in
       let stays = steady o.owner (suc o.begun) i (begun_by_rank o i (omega arith)) (rank_begun z o ∙ sym high) in
@@ -101,8 +103,8 @@ module _ {R : Type 0} (z : Run R) where
     turned_rank = rank_update (station z (suc w.at) o.owner) (tag z o) w.is_two
 
     -- the owner turns by a message that it hears
-    turned_by : (b r : ℕ) → (station z w.at o.owner).operation ≡ PhaseOne o.task (tag z o) b r → Change z w.at o.owner
-        → (station z (suc w.at) o.owner).operation ≡ PhaseTwo (kind_of o.task) (tag z o) (member_count (station z w.at o.owner).known) 0 spread.value
+    turned_by : (b r : ℕ) → (station z w.at o.owner).operation ≡ PhaseOne o.task (polled (tag z o) b r) → Change z w.at o.owner
+        → (station z (suc w.at) o.owner).operation ≡ PhaseTwo (kind_of o.task) (new_poll (tag z o) (member_count (station z w.at o.owner).known)) spread.value
     turned_by b r g (same e) = absurd (omega (arith, turned_rank, ap rank e, ap rank_of g))
     turned_by b r g (comes a e) = absurd (omega (arith, turned_rank, ap rank e))
     turned_by b r g (fades l c f e) = absurd (omega (arith, turned_rank, ap rank e, ap rank_of g))
@@ -110,17 +112,17 @@ module _ {R : Type 0} (z : Run R) where
     turned_by b r g (hears_one n c a u e) =
         let own = o.owner in
         ap (λ s. s.operation) e
-        ∙ hear_turns z.setup.choice own c.content (station z w.at own) o.task (tag z o) b r g (sym (ap rank e) ∙ turned_rank)
-        ∙ ap (λ s. PhaseTwo (kind_of o.task) (tag z o) (member_count (station z w.at own).known) 0 s.register.value) (sym e)
+        ∙ hear_turns z.setup.choice own c.content (station z w.at own) o.task (polled (tag z o) b r) g (sym (ap rank e) ∙ turned_rank)
+        ∙ ap (λ s. PhaseTwo (kind_of o.task) (new_poll (tag z o) (member_count (station z w.at own).known)) s.register.value) (sym e)
 
     -- phase two begins with the record that the owner then holds, and with no replies
     phase_two_begins : (station z (suc w.at) o.owner).operation
-        ≡ PhaseTwo (kind_of o.task) (tag z o) (member_count (station z w.at o.owner).known) 0 spread.value
+        ≡ PhaseTwo (kind_of o.task) (new_poll (tag z o) (member_count (station z w.at o.owner).known)) spread.value
     phase_two_begins = let (b, r, g) = phase_one o w.at w.was_one in turned_by b r g (change z w.at o.owner)
 
     -- and phase two keeps it
     phase_two : (j : ℕ) → awaits (station z j o.owner) (update (tag z o)) ≡ true
-        → (r : ℕ) × ((station z j o.owner).operation ≡ PhaseTwo (kind_of o.task) (tag z o) (member_count (station z w.at o.owner).known) r spread.value)
+        → (r : ℕ) × ((station z j o.owner).operation ≡ PhaseTwo (kind_of o.task) (polled (tag z o) (member_count (station z w.at o.owner).known) r) spread.value)
     phase_two j h =
         let own = o.owner in
         let high = rank_update (station z j own) (tag z o) h in
@@ -136,19 +138,19 @@ module _ {R : Type 0} (z : Run R) where
     -- its phase one had the task with which it began
     pub base : ℕ
     pub replies : ℕ
-    pub was_one : (station z at o.owner).operation ≡ PhaseOne o.task (tag z o) base replies
+    pub was_one : (station z at o.owner).operation ≡ PhaseOne o.task (polled (tag z o) base replies)
     -- its phase two keeps the value that its station then holds, as long as it lasts
     pub base_two : ℕ
-    pub is_two : (station z (suc at) o.owner).operation ≡ PhaseTwo (kind_of o.task) (tag z o) base_two 0 (station z (suc at) o.owner).register.value
-    pub kept : (j : ℕ) (k : Kind) (b r : ℕ) (v : R) → (station z j o.owner).operation ≡ PhaseTwo k (tag z o) b r v → v ≡ (station z (suc at) o.owner).register.value
+    pub is_two : (station z (suc at) o.owner).operation ≡ PhaseTwo (kind_of o.task) (new_poll (tag z o) base_two) (station z (suc at) o.owner).register.value
+    pub kept : (j : ℕ) (k : Kind) (n : Poll) (v : R) → n.tag ≡ tag z o → (station z j o.owner).operation ≡ PhaseTwo k n v → v ≡ (station z (suc at) o.owner).register.value
 
   pub turned : {x : ℕ} (o : Logged z x) (i : ℕ) → 3 * tag z o < rank (station z i o.owner) → Turned o i
   turned o i l = by (rank_turned o i l)
     where
-      kept_value : (w : RankTurns o i) (j : ℕ) (k : Kind) (b r : ℕ) (v : R) → (station z j o.owner).operation ≡ PhaseTwo k (tag z o) b r v → v ≡ (station z (suc w.at) o.owner).register.value
-      kept_value w j k b r v e =
-          let (n, f) = phase_two o i w j (ap (in_two (tag z o)) e ∙ eq-eqb (tag z o) (tag z o) refl) in
-          let same : PhaseTwo k (tag z o) b r v ≡ PhaseTwo (kind_of o.task) (tag z o) _ n (station z (suc w.at) o.owner).register.value = sym e ∙ f in
+      kept_value : (w : RankTurns o i) (j : ℕ) (k : Kind) (n : Poll) (v : R) → n.tag ≡ tag z o → (station z j o.owner).operation ≡ PhaseTwo k n v → v ≡ (station z (suc w.at) o.owner).register.value
+      kept_value w j k n v t e =
+          let (r, f) = phase_two o i w j (ap (in_two (tag z o)) e ∙ eq-eqb n.tag (tag z o) t) in
+          let same : PhaseTwo k n v ≡ PhaseTwo (kind_of o.task) (polled (tag z o) _ r) (station z (suc w.at) o.owner).register.value = sym e ∙ f in
           cc
 
       by : RankTurns o i → Turned o i

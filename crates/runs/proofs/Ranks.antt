@@ -20,8 +20,8 @@ use Rattle.runs.proofs.Requests.{query, update, awaits, in_one, in_two}
 
 abbrev pub rank_of : {R : Type 0} → Operation R → ℕ
 rank_of (Idle tag) = 3 * tag + 2
-rank_of (PhaseOne task tag base replies) = 3 * tag
-rank_of (PhaseTwo kind tag base replies kept) = 3 * tag + 1
+rank_of (PhaseOne task poll) = 3 * poll.tag
+rank_of (PhaseTwo kind poll kept) = 3 * poll.tag + 1
 
 module _ {R : Type 0} where
   abbrev pub rank : Station R Set → ℕ
@@ -32,16 +32,16 @@ module _ {R : Type 0} where
 
   ranked_one : (o : Operation R) (t : ℕ) → rank_of o ≡ 3 * t → in_one t o ≡ true
   ranked_one (Idle tag) t h = absurd (omega arith)
-  ranked_one (PhaseOne task tag base replies) t h = eq-eqb tag t (omega arith)
-  ranked_one (PhaseTwo kind tag base replies kept) t h = absurd (omega arith)
+  ranked_one (PhaseOne task poll) t h = eq-eqb poll.tag t (omega arith)
+  ranked_one (PhaseTwo kind poll kept) t h = absurd (omega arith)
 
   two_ranked : (o : Operation R) (t : ℕ) → in_two t o ≡ true → rank_of o ≡ 3 * t + 1
   two_ranked o t h = grind (arith, nat_tests)
 
   ranked_two : (o : Operation R) (t : ℕ) → rank_of o ≡ 3 * t + 1 → in_two t o ≡ true
   ranked_two (Idle tag) t h = absurd (omega arith)
-  ranked_two (PhaseOne task tag base replies) t h = absurd (omega arith)
-  ranked_two (PhaseTwo kind tag base replies kept) t h = eq-eqb tag t (omega arith)
+  ranked_two (PhaseOne task poll) t h = absurd (omega arith)
+  ranked_two (PhaseTwo kind poll kept) t h = eq-eqb poll.tag t (omega arith)
 
   -- in phase one of tag t, in its phase two
   pub rank_query : (x : Station R Set) (t : ℕ) → awaits x (query t) ≡ true → rank x ≡ 3 * t
@@ -66,8 +66,8 @@ module _ {R : Type 0} where
     where
       by : (o : Operation R) → under_way o ≡ false → 3 * (tag_of o + 1) ≡ rank_of o + 1
       by (Idle tag) h = omega arith
-      by (PhaseOne task tag base replies) h = absurd (let z : ◌≡◌ {A = ℕ} 0 1 = cc in omega arith)
-      by (PhaseTwo kind tag base replies kept) h = absurd (let z : ◌≡◌ {A = ℕ} 0 1 = cc in omega arith)
+      by (PhaseOne task poll) h = absurd (let z : ◌≡◌ {A = ℕ} 0 1 = cc in omega arith)
+      by (PhaseTwo kind poll kept) h = absurd (let z : ◌≡◌ {A = ℕ} 0 1 = cc in omega arith)
 
 module _ {R : Type 0} (z : Run R) where
   rank_step : (p i : ℕ) → (rank (station z i p) ≤ rank (station z (suc i) p)) × (rank (station z (suc i) p) ≤ rank (station z i p) + 1)

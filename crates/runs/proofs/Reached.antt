@@ -34,8 +34,8 @@ use Rattle.runs.proofs.Start.{table_high}
 -- the three numbers of an operation, told apart
 small_operation : {R : Type 0} (places : ℕ) (o : Operation R) → tag_of o ≤ places → base_of o ≤ most_stations → replies_of o ≤ most_messages → SmallOperation places o
 small_operation places (Idle tag) t b r = t
-small_operation places (PhaseOne task tag base replies) t b r = (t, b, r)
-small_operation places (PhaseTwo kind tag base replies kept) t b r = (t, b, r)
+small_operation places (PhaseOne task poll) t b r = (t, b, r)
+small_operation places (PhaseTwo kind poll kept) t b r = (t, b, r)
 
 small_content : {R : Type 0} (places : ℕ) (m : Content R Set) → count_in m ≤ places → SmallContent places m
 small_content places (Enter p) h = tt
@@ -88,13 +88,13 @@ counts_rise (Some e) h =
 module _ {R : Type 0} (places : ℕ) (few : places ≤ 65535) where
   replies_rise : (o : Operation R) → SmallOperation places o → replies_may_rise o ≡ true
   replies_rise (Idle tag) h = refl
-  replies_rise (PhaseOne task tag base replies) h = low_rises replies (omega (arith, h.2))
-  replies_rise (PhaseTwo kind tag base replies kept) h = low_rises replies (omega (arith, h.2))
+  replies_rise (PhaseOne task poll) h = low_rises poll.replies (omega (arith, h.2))
+  replies_rise (PhaseTwo kind poll kept) h = low_rises poll.replies (omega (arith, h.2))
 
   tag_rises : (o : Operation R) → SmallOperation places o → may_rise (tag_of o) ≡ true
   tag_rises (Idle tag) h = low_rises tag (omega arith)
-  tag_rises (PhaseOne task tag base replies) h = low_rises tag (omega (arith, h.0))
-  tag_rises (PhaseTwo kind tag base replies kept) h = low_rises tag (omega (arith, h.0))
+  tag_rises (PhaseOne task poll) h = low_rises poll.tag (omega (arith, h.0))
+  tag_rises (PhaseTwo kind poll kept) h = low_rises poll.tag (omega (arith, h.0))
 
   heard_rises : (x : Station R Set) (m : Content R Set) → SmallStation places x → SmallContent places m → can_rise x m ≡ true
   unfolding can_rise

@@ -6,11 +6,13 @@ use Rattle.network.specs.declared.operation.Operation.{Operation}
 use Rattle.network.specs.declared.operation.Operation.TheVariants.{PhaseOne, PhaseTwo}
 use Rattle.network.specs.declared.operation.Kind.TheVariants as kind
 use Rattle.network.specs.declared.operation.Task.TheVariants as task
+use Rattle.network.specs.declared.poll.Poll.{Poll}
 use Rattle.network.specs.declared.register.Register.{Register}
 use Rattle.network.specs.declared.stamp.Stamp.{Stamp}
 use Rattle.network.specs.declared.station.Station.{Station}
 use Rattle.network.specs.Keeping.{unused_station, founder}
 use Rattle.network.specs.Knowing.{Set}
+use Rattle.network.specs.Polls.{new_poll}
 use Rattle.network.specs.Stamps.{higher, first_stamp, next_stamp, first_register}
 use Rattle.network.specs.States.{Copy}
 use Rattle.runs.proofs.Positions.{Run, station, waiting}
@@ -23,12 +25,10 @@ use Rattle.runs.proofs.Stamps.{UpTo, up_to_itself, up_to_trans, first_up_to, hig
 module _ {R : Type 0} (z : Run R) where
   -- the write of p that begins phase two at step s makes the record v
   pub record Makes (s p : ℕ) (v : Register R) : Type 0 where
-    pub tag : ℕ
-    pub base : ℕ
-    pub replies : ℕ
-    pub was_one : (station z s p).operation ≡ PhaseOne (task.Write v.value) tag base replies
+    pub poll : Poll
+    pub was_one : (station z s p).operation ≡ PhaseOne (task.Write v.value) poll
     pub base_two : ℕ
-    pub is_two : (station z (suc s) p).operation ≡ PhaseTwo kind.Write tag base_two 0 v.value
+    pub is_two : (station z (suc s) p).operation ≡ PhaseTwo kind.Write (new_poll poll.tag base_two) v.value
     pub is : (station z (suc s) p).register ≡ v
 
   -- v is the first record under the first stamp, or some write made it before position i
@@ -40,7 +40,7 @@ module _ {R : Type 0} (z : Run R) where
   valid_on i j v l (inr (s, p, k, m)) = inr (s, p, omega arith, m)
 
   makes_by : (s p : ℕ) → Wrote p (station z s p) (station z (suc s) p) → Makes s p (station z (suc s) p).register
-  makes_by s p w = record { tag = w.tag; base = w.base; replies = w.replies; was_one = w.was_one; base_two = w.base_two; is_two = w.is_two; is = refl }
+  makes_by s p w = record { poll = w.poll; was_one = w.was_one; base_two = w.base_two; is_two = w.is_two; is = refl }
 
   valid_made : (i p : ℕ) → Wrote p (station z i p) (station z (suc i) p) → Valid (suc i) (station z (suc i) p).register
   valid_made i p w = inr (i, p, omega arith, makes_by i p w)
@@ -120,7 +120,7 @@ module _ {R : Type 0} (z : Run R) where
       by (same e) = absurd (other x (ap (λ (x : Station R Set). x.operation) e) (rests x))
       by (comes a e) = absurd (other _ (ap (λ (x : Station R Set). x.operation) e) (not_to_idle x 0))
       by (fades l c f e) = absurd (other x (ap (λ (x : Station R Set). x.operation) e) (rests x))
-      by (begins_one t a e) = absurd (other _ (ap (λ (x : Station R Set). x.operation) e) (not_to_one x _ _ _ _))
+      by (begins_one t a e) = absurd (other _ (ap (λ (x : Station R Set). x.operation) e) (not_to_one x _ _))
       by (hears_one n c a w e) = heard c (subst (Recorded p _ c.content (station z s p)) (sym e) (hear_record z.setup.choice p _ c.content (station z s p)))
 
   pub makes_there : (s p : ℕ) → begins_to_write (station z s p).operation (station z (suc s) p).operation ≡ true → Makes s p (station z (suc s) p).register

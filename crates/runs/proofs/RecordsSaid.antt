@@ -1,6 +1,6 @@
 -- Records in messages, apart from runs: what hearing does to a station's record, and which records letters hold.
 -- Rests on the order of stamps.
-use Rattle.std.proofs.Common.{◌≡◌, ℕ, ◌+◌, Bool, true, false, cond, eqb, ◌⊎◌, refl, ap, ◌∙◌, inl, inr, arith}
+use Rattle.std.proofs.Common.{◌≡◌, ℕ, Bool, true, false, cond, eqb, ◌⊎◌, refl, ap, ◌∙◌, inl, inr, arith}
 use Rattle.settings.specs.declared.choice.Choice.{Choice}
 use Rattle.network.specs.declared.content.Content.{Content}
 use Rattle.network.specs.declared.content.Content.TheVariants.{Enter, EnterEcho, Joined, JoinedEcho, Leave, LeaveEcho, Query, Response, Update, Ack, UpdateEcho}
@@ -11,12 +11,14 @@ use Rattle.network.specs.declared.operation.Operation.{Operation}
 use Rattle.network.specs.declared.operation.Operation.TheVariants.{Idle, PhaseOne, PhaseTwo}
 use Rattle.network.specs.declared.operation.Task.{Task}
 use Rattle.network.specs.declared.operation.Task.TheVariants as task
+use Rattle.network.specs.declared.poll.Poll.{Poll}
 use Rattle.network.specs.declared.register.Register.{Register}
 use Rattle.network.specs.declared.stamp.Stamp.{Stamp}
 use Rattle.network.specs.declared.station.Station.{Station}
-use Rattle.network.specs.Hearing.{quorum, take_offer, begin_two, count_response, hear}
+use Rattle.network.specs.Hearing.{take_offer, begin_two, count_response, hear}
 use Rattle.network.specs.Keeping.{with_operation}
 use Rattle.network.specs.Knowing.{Set, member_count}
+use Rattle.network.specs.Polls.{new_poll, with_reply, quorum}
 use Rattle.network.specs.Saying.{letters, says}
 use Rattle.network.specs.Stamps.{next_stamp, newer}
 use Rattle.runs.proofs.Mails.{Among}
@@ -25,11 +27,11 @@ use Rattle.runs.proofs.Stamps.{UpTo, newer_either, newer_held}
 -- a write goes from phase one to phase two
 abbrev pub begins_to_write : {R : Type 0} → Operation R → Operation R → Bool
 begins_to_write (Idle a) o = false
-begins_to_write (PhaseOne task.Read a b r) o = false
-begins_to_write (PhaseOne (task.Write v) a b r) (Idle c) = false
-begins_to_write (PhaseOne (task.Write v) a b r) (PhaseOne t c d e) = false
-begins_to_write (PhaseOne (task.Write v) a b r) (PhaseTwo k c d e f) = true
-begins_to_write (PhaseTwo k a b r v) o = false
+begins_to_write (PhaseOne task.Read a) o = false
+begins_to_write (PhaseOne (task.Write v) a) (Idle c) = false
+begins_to_write (PhaseOne (task.Write v) a) (PhaseOne t c) = false
+begins_to_write (PhaseOne (task.Write v) a) (PhaseTwo k c w) = true
+begins_to_write (PhaseTwo k a v) o = false
 
 module _ {R : Type 0} where
   -- the record that a content offers, or another where it offers none
@@ -48,12 +50,10 @@ module _ {R : Type 0} where
 
   -- the write of q, which was x and is y, begins phase two: it makes its record under the stamp next to what it then had
   pub record Wrote (q : ℕ) (x y : Station R Set) : Type 0 where
-    pub tag : ℕ
-    pub base : ℕ
-    pub replies : ℕ
-    pub was_one : x.operation ≡ PhaseOne (task.Write y.register.value) tag base replies
+    pub poll : Poll
+    pub was_one : x.operation ≡ PhaseOne (task.Write y.register.value) poll
     pub base_two : ℕ
-    pub is_two : y.operation ≡ PhaseTwo kind.Write tag base_two 0 y.register.value
+    pub is_two : y.operation ≡ PhaseTwo kind.Write (new_poll poll.tag base_two) y.register.value
     pub had : Stamp
     pub next : y.register.stamp ≡ next_stamp q had
     pub not_below : UpTo x.register.stamp had
@@ -69,11 +69,11 @@ module _ {R : Type 0} where
   pub not_to_idle : (o : Operation R) (tag : ℕ) → begins_to_write o (Idle tag) ≡ false
   not_to_idle o tag = grind arith
 
-  pub not_to_one : (o : Operation R) (t : Task R) (tag base replies : ℕ) → begins_to_write o (PhaseOne t tag base replies) ≡ false
-  not_to_one o t tag base replies = grind arith
+  pub not_to_one : (o : Operation R) (t : Task R) (poll : Poll) → begins_to_write o (PhaseOne t poll) ≡ false
+  not_to_one o t poll = grind arith
 
-  read_rests : (o p : Operation R) (tag base replies : ℕ) → o ≡ PhaseOne task.Read tag base replies → begins_to_write o p ≡ false
-  read_rests o p tag base replies e = ap (λ k. begins_to_write k p) e
+  read_rests : (o p : Operation R) (poll : Poll) → o ≡ PhaseOne task.Read poll → begins_to_write o p ≡ false
+  read_rests o p poll e = ap (λ k. begins_to_write k p) e
 
   -- an offer is taken or not
   offered : (q : ℕ) (v : Register R) (m : Content R Set) (x y : Station R Set) → begins_to_write x.operation y.operation ≡ false → y.register ≡ newer (offer_in v m) x.register
@@ -82,21 +82,19 @@ module _ {R : Type 0} where
 
   counts_response : (c : Choice) (q : ℕ) (v offer : Register R) (tag : ℕ) (x : Station R Set) (o : Operation R) → x.operation ≡ o → Recorded q v (Response offer tag) x (count_response c q offer tag o x)
   counts_response c q v offer tag x (Idle own) e = inl (rests x.operation, inl refl)
-  counts_response c q v offer tag x (PhaseTwo k own base replies kept) e = inl (rests x.operation, inl refl)
-  counts_response c q v offer tag x (PhaseOne t own base replies) e = by (eqb tag own) (quorum c base (replies + 1)) t e
+  counts_response c q v offer tag x (PhaseTwo k poll kept) e = inl (rests x.operation, inl refl)
+  counts_response c q v offer tag x (PhaseOne t poll) e = by (eqb tag poll.tag) (quorum c (with_reply poll)) t e
     where
       y : Station R Set
       y = take_offer offer x
 
-      by : (a b : Bool) (t : Task R) → x.operation ≡ PhaseOne t own base replies → Recorded q v (Response offer tag) x (cond a (cond b (begin_two q t own y) (with_operation (PhaseOne t own base (replies + 1)) y)) x)
+      by : (a b : Bool) (t : Task R) → x.operation ≡ PhaseOne t poll → Recorded q v (Response offer tag) x (cond a (cond b (begin_two q t poll.tag y) (with_operation (PhaseOne t (with_reply poll)) y)) x)
       by false b t e = inl (rests x.operation, inl refl)
-      by true false t e = offered q v (Response offer tag) x _ (not_to_one x.operation t own base (replies + 1)) refl
-      by true true task.Read e = offered q v (Response offer tag) x _ (read_rests x.operation (begin_two q task.Read own (take_offer offer x)).operation own base replies e) refl
+      by true false t e = offered q v (Response offer tag) x _ (not_to_one x.operation t (with_reply poll)) refl
+      by true true task.Read e = offered q v (Response offer tag) x _ (read_rests x.operation (begin_two q task.Read poll.tag (take_offer offer x)).operation poll e) refl
       by true true (task.Write r) e =
           inr (record {
-            tag = own;
-            base = base;
-            replies = replies;
+            poll = poll;
             was_one = e;
             base_two = member_count x.known;
             is_two = refl;

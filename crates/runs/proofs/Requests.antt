@@ -33,13 +33,13 @@ is_update tag (update t) = eqb tag t
 -- in phase one, or in phase two, of this tag
 abbrev pub in_one : {R : Type 0} → ℕ → Operation R → Bool
 in_one t (Idle tag) = false
-in_one t (PhaseOne task tag base replies) = eqb tag t
-in_one t (PhaseTwo kind tag base replies kept) = false
+in_one t (PhaseOne task poll) = eqb poll.tag t
+in_one t (PhaseTwo kind poll kept) = false
 
 abbrev pub in_two : {R : Type 0} → ℕ → Operation R → Bool
 in_two t (Idle tag) = false
-in_two t (PhaseOne task tag base replies) = false
-in_two t (PhaseTwo kind tag base replies kept) = eqb tag t
+in_two t (PhaseOne task poll) = false
+in_two t (PhaseTwo kind poll kept) = eqb poll.tag t
 
 module _ {R : Type 0} where
   -- p asks r by this content

@@ -97,8 +97,8 @@ module _ {R : Type 0} where
 
   rank_high : (o : Operation R) → rank_of o < 3 * (tag_of o + 1)
   rank_high (Idle tag) = omega arith
-  rank_high (PhaseOne task tag base replies) = omega arith
-  rank_high (PhaseTwo kind tag base replies kept) = omega arith
+  rank_high (PhaseOne task poll) = omega arith
+  rank_high (PhaseTwo kind poll kept) = omega arith
 
   pub begun_makes : (t : Task R) (x : Station R Set) (p q : ℕ) (r : Request) (l : Letter R Set) → l ≡ to_all (Query q (tag_of x.operation + 1)) → asks p r l.content ≡ true → Makes q p r x (begin t x) l
   begun_makes t x p q r l e h =

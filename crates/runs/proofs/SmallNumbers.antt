@@ -31,13 +31,13 @@ use Rattle.runs.proofs.Provenance.{gone_after}
 -- replies counted by an operation, and the base of its quorum
 abbrev pub replies_of : {R : Type 0} → Operation R → ℕ
 replies_of (Idle tag) = 0
-replies_of (PhaseOne task tag base replies) = replies
-replies_of (PhaseTwo kind tag base replies kept) = replies
+replies_of (PhaseOne task poll) = poll.replies
+replies_of (PhaseTwo kind poll kept) = poll.replies
 
 abbrev pub base_of : {R : Type 0} → Operation R → ℕ
 base_of (Idle tag) = 0
-base_of (PhaseOne task tag base replies) = base
-base_of (PhaseTwo kind tag base replies kept) = base
+base_of (PhaseOne task poll) = poll.base
+base_of (PhaseTwo kind poll kept) = poll.base
 
 abbrev pub bound_of : Option ℕ → ℕ
 bound_of None = 0

@@ -22,8 +22,8 @@ use Rattle.runs.proofs.Mails.{Among}
 
 abbrev pub in_phase_one : {R : Type 0} → Operation R → Bool
 in_phase_one (Idle tag) = false
-in_phase_one (PhaseOne task tag base replies) = true
-in_phase_one (PhaseTwo kind tag base replies kept) = false
+in_phase_one (PhaseOne task poll) = true
+in_phase_one (PhaseTwo kind poll kept) = false
 
 -- the count of the stamp that a message holds
 abbrev pub count_in : {R : Type 0} → Content R Set → ℕ

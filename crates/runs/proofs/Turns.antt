@@ -10,16 +10,19 @@ use Rattle.network.specs.declared.operation.Operation.{Operation}
 use Rattle.network.specs.declared.operation.Operation.TheVariants.{Idle, PhaseOne, PhaseTwo}
 use Rattle.network.specs.declared.operation.Task.{Task}
 use Rattle.network.specs.declared.operation.Task.TheVariants as task
+use Rattle.network.specs.declared.poll.Poll.{Poll}
 use Rattle.network.specs.declared.register.Register.{Register}
 use Rattle.network.specs.declared.station.Station.{Station}
 use Rattle.network.specs.Hearing.{kind_of}
 use Rattle.network.specs.Keeping.{under_way, tag_of}
 use Rattle.network.specs.Knowing.{Set}
 use Rattle.network.specs.Logs.{opening_value}
+use Rattle.network.specs.Polls.{new_poll}
 use Rattle.network.specs.Steps.{element}
 use Rattle.runs.proofs.Positions.{Run, station}
 use Rattle.runs.proofs.Accepted.{begins}
 use Rattle.runs.proofs.Changes.{grown}
+use Rattle.runs.proofs.Endings.{polled}
 use Rattle.runs.proofs.LogOverRuns.{entries, latest}
 use Rattle.runs.proofs.Operations.{Logged, tag, Ended, entry_open, entry_ended}
 use Rattle.runs.proofs.Progress.{Turned, turned, AtLatest, at_latest}
@@ -29,10 +32,10 @@ use Rattle.runs.proofs.Records.{Makes, makes_there}
 use Rattle.runs.proofs.RecordsSaid.{begins_to_write}
 
 -- who is in phase two of this tag keeps something
-in_phase_two : {R : Type 0} (t : ℕ) (o : Operation R) → in_two t o ≡ true → (k : Kind) × (b : ℕ) × (r : ℕ) × (v : R) × (o ≡ PhaseTwo k t b r v)
+in_phase_two : {R : Type 0} (t : ℕ) (o : Operation R) → in_two t o ≡ true → (k : Kind) × (n : Poll) × (v : R) × (n.tag ≡ t) × (o ≡ PhaseTwo k n v)
 in_phase_two t (Idle tag) h = absurd (both_ways _ refl h)
-in_phase_two t (PhaseOne task tag base replies) h = absurd (both_ways _ refl h)
-in_phase_two t (PhaseTwo kind tag base replies kept) h = (kind, base, replies, kept, ap (λ n. PhaseTwo kind n base replies kept) (eqb-true _ _ h))
+in_phase_two t (PhaseOne task poll) h = absurd (both_ways _ refl h)
+in_phase_two t (PhaseTwo kind poll kept) h = (kind, poll, kept, eqb-true _ _ h, refl)
 
 module _ {R : Type 0} (z : Run R) where
   module _ {x : ℕ} (o : Logged z x) where
@@ -57,13 +60,13 @@ module _ {R : Type 0} (z : Run R) where
     pub turned_makes : {i : ℕ} (w : Turned z o i) → kind_of o.task ≡ kind.Write → Makes z w.at o.owner (spreads w)
     turned_makes w k = makes_there z w.at o.owner (ap₂ begins_to_write w.was_one w.is_two ∙ writes o.task k)
       where
-        writes : (t : Task R) → kind_of t ≡ kind.Write → begins_to_write (PhaseOne t (tag z o) w.base w.replies) (PhaseTwo (kind_of o.task) (tag z o) w.base_two 0 (spreads w).value) ≡ true
+        writes : (t : Task R) → kind_of t ≡ kind.Write → begins_to_write (PhaseOne t (polled (tag z o) w.base w.replies)) (PhaseTwo (kind_of o.task) (new_poll (tag z o) w.base_two) (spreads w).value) ≡ true
         writes task.Read k = cc
         writes (task.Write r) k = refl
 
     -- and it is the record of its task
     pub turned_task : {i : ℕ} (w : Turned z o i) → kind_of o.task ≡ kind.Write → o.task ≡ task.Write (spreads w).value
-    turned_task w k = let m = turned_makes w k in let e : PhaseOne o.task (tag z o) w.base w.replies ≡ PhaseOne (task.Write (spreads w).value) m.tag m.base m.replies = sym w.was_one ∙ m.was_one in cc
+    turned_task w k = let m = turned_makes w k in let e : PhaseOne o.task (polled (tag z o) w.base w.replies) ≡ PhaseOne (task.Write (spreads w).value) m.poll = sym w.was_one ∙ m.was_one in cc
 
     -- once it has ended, its entry shows the value that it spread
     pub ended_value : {i : ℕ} (w : Turned z o i) (e : Entry R) → element (entries z i) x ≡ Some e → 3 * tag z o + 1 < rank (station z i o.owner) → e.value ≡ (spreads w).value
@@ -71,8 +74,8 @@ module _ {R : Type 0} (z : Run R) where
       where
         by : Ended z o i e → e.value ≡ (spreads w).value
         by d =
-            let (k, b, r, v, f) = in_phase_two (tag z o) (station z d.at o.owner).operation d.was_two in
-            d.value k b r v f ∙ w.kept d.at k b r v f
+            let (k, n, v, t, f) = in_phase_two (tag z o) (station z d.at o.owner).operation d.was_two in
+            d.value k n v f ∙ w.kept d.at k n v t f
 
     -- the entry of a write shows it all along
     pub written_value : {i : ℕ} (w : Turned z o i) (e : Entry R) → element (entries z i) x ≡ Some e → kind_of o.task ≡ kind.Write → e.value ≡ (spreads w).value
@@ -134,13 +137,13 @@ module _ {R : Type 0} (z : Run R) where
       by : AtLatest z s p → MadeBy s p v
       by k =
           let o = k.operation in
-          let tags : tag z o ≡ m.tag = k.same_tag ∙ ap tag_of m.was_one in
+          let tags : tag z o ≡ m.poll.tag = k.same_tag ∙ ap tag_of m.was_one in
           let one = ap (λ q. (station z s q).operation) k.own ∙ m.was_one in
           let two = ap (λ q. (station z (suc s) q).operation) k.own ∙ m.is_two in
           let w = turned z o (suc s) (omega (arith, ap rank_of two, tags)) in
           let at : w.at ≡ s =
           turns_once o.owner (tag z o) w.at s (rank_before o w) (rank_after o w) (omega (arith, ap rank_of one, tags)) (omega (arith, ap rank_of two, tags)) in
-          let same : PhaseOne o.task (tag z o) w.base w.replies ≡ PhaseOne (task.Write v.value) m.tag m.base m.replies =
+          let same : PhaseOne o.task (polled (tag z o) w.base w.replies) ≡ PhaseOne (task.Write v.value) m.poll =
           sym w.was_one ∙ ap (λ i. (station z i o.owner).operation) at ∙ one in
           let task : o.task ≡ task.Write v.value = cc in
           record { place = latest z s p; writer = o; writes = ap kind_of task; turn = w; is = ap₂ (λ i q. (station z (suc i) q).register) at k.own ∙ m.is }

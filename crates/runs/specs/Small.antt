@@ -5,6 +5,7 @@ use Rattle.network.specs.declared.content.Content.TheVariants.{Enter, EnterEcho,
 use Rattle.network.specs.declared.entry.Entry.{Entry}
 use Rattle.network.specs.declared.operation.Operation.{Operation}
 use Rattle.network.specs.declared.operation.Operation.TheVariants.{Idle, PhaseOne, PhaseTwo}
+use Rattle.network.specs.declared.poll.Poll.{Poll}
 use Rattle.network.specs.declared.register.Register.{Register}
 use Rattle.network.specs.declared.station.Station.{Station}
 use Rattle.network.specs.declared.step.Step.{Step}
@@ -19,12 +20,16 @@ use Rattle.network.specs.Steps.{element}
 abbrev pub most_messages : ℕ
 most_messages = last_number + 1
 
+-- a poll, in a run with so many places in its log: its tag, the base of its quorum, and its replies
+abbrev pub SmallPoll : ℕ → Poll → Type 0
+SmallPoll places poll = (poll.tag ≤ places) × (poll.base ≤ most_stations) × (poll.replies ≤ most_messages)
+
 module _ {R : Type 0} where
-  -- an operation, in a run with so many places in its log: its tag, the base of its quorum, and its replies
+  -- an operation: its tag, and its poll
   abbrev pub SmallOperation : ℕ → Operation R → Type 0
   SmallOperation places (Idle tag) = tag ≤ places
-  SmallOperation places (PhaseOne task tag base replies) = (tag ≤ places) × (base ≤ most_stations) × (replies ≤ most_messages)
-  SmallOperation places (PhaseTwo kind tag base replies kept) = (tag ≤ places) × (base ≤ most_stations) × (replies ≤ most_messages)
+  SmallOperation places (PhaseOne task poll) = SmallPoll places poll
+  SmallOperation places (PhaseTwo kind poll kept) = SmallPoll places poll
 
   -- the count of a stamp
   abbrev pub SmallStamp : ℕ → Register R → Type 0
