@@ -2,8 +2,6 @@
 ghost use Rattle.network.specs.Worked.{WorkedCases};
 
 // The worked cases hold of the rules: settings, limit book, the worked example, and a newcomer that joins and reads.
-pub fn worked_cases_hold() -> u8
+pub fn worked_cases_hold()
     ensures { WorkedCases }
-{
-    0
-}
+{}

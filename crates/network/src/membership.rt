@@ -65,10 +65,8 @@ impl<R: Copy> Station<R, Stations> {
         ensures { shown self.new ≡ count_echo choice.now me sender_joined (shown self.old) }
     {
         self.echoes += 1;
-        if let None = self.bound {
-            if sender_joined {
-                self.bound = Some(self.known.present());
-            }
+        if sender_joined && self.bound.is_none() {
+            self.bound = Some(self.known.present());
         }
         if let Some(bound) = self.bound {
             if 100 * self.echoes as u64 >= choice.gamma as u64 * bound as u64 {

@@ -63,11 +63,7 @@ impl<R: Copy> Station<R, Stations> {
         ensures value { result ≡ (if can_begin (shown self.old) then Some (tag_of self.old.operation + 1) else None) }
         ensures after { shown self.new ≡ (if can_begin (shown self.old) then begin task (shown self.old) else shown self.old) }
     {
-        let last = self.operation.tag();
-        if last == u32::MAX {
-            return None;
-        }
-        let tag = last + 1;
+        let tag = self.operation.tag().checked_add(1)?;
         let base = self.known.members();
         self.operation = Operation::PhaseOne {
             task,

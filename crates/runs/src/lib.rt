@@ -11,19 +11,15 @@ pub use examples::examples_meet_the_premises;
 pub use small::numbers_stay_small;
 
 // The clock never goes back, no copy waits under a number that is still to be given, and enough stations work.
-pub fn basics_hold<R: Drop>(first: R) -> u8
+pub fn basics_hold<R>()
     ensures clock { ClockNeverGoesBack R }
     ensures numbers { NumbersStayBelowTheNext R }
     ensures enough { EnoughStationsWork R }
-{
-    0
-}
+{}
 
 // Over every run reads and writes have a single order as one register would give it, stations join within 2D ticks,
 // operations end within 4D ticks, and the log tells exactly the operations, with what they were to write, and for good.
-pub fn every_run_keeps_its_promises<R: Drop>(first: R) -> u8
+pub fn every_run_keeps_its_promises<R>()
     ensures promises { PromisesKept R }
     ensures logs { LogsStand R }
-{
-    0
-}
+{}
