@@ -47,7 +47,7 @@ impl<R: Copy> Station<R, Stations> {
     }
 
     // The eleven messages.
-    #[tactic(auto, unfolding(crate::specs::Hearing::hear, crate::specs::Saying::says, crate::specs::Limits::can_rise))]
+    #[tactic(auto, unfolding(crate::specs::Hearing::hear, crate::specs::Saying::says))]
     fn hear(
         &mut self,
         me: u8,

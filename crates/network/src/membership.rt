@@ -3,7 +3,7 @@ ghost use Rattle.std.specs.Prelude.{◌≡◌, true, not, ◌&&◌, if◌then◌
 ghost use Rattle.network.specs.Hearing.{hear_joined, join, count_echo, hear_echo};
 ghost use Rattle.network.specs.Keeping.{with_known};
 ghost use Rattle.network.specs.Knowing.{note_entered, note_left};
-ghost use Rattle.network.specs.Limits.{may_rise};
+ghost use Rattle.network.specs.Limits.{may_rise, can_rise};
 ghost use Rattle.network.specs.Saying.{to_all};
 ghost use Rattle.network.specs.Shown.{shown, shown_known, shown_speech};
 ghost use Rattle.network.specs.declared.content.Content.TheVariants.{EnterEcho, Joined, JoinedEcho, LeaveEcho};
@@ -33,6 +33,7 @@ impl<R: Copy> Station<R, Stations> {
     }
 
     // 2: adds the sets and takes the offer; an echo of its own entry may let it join, which it then says.
+    #[tactic(auto, unfolding(crate::specs::Limits::can_rise))]
     pub(crate) fn hear_echo(
         &mut self,
         me: u8,
@@ -42,7 +43,7 @@ impl<R: Copy> Station<R, Stations> {
         of: u8,
         choice: &Choice,
     ) -> Speech<R, Stations>
-        requires { may_rise self.old.echoes ≡ true }
+        requires { can_rise (shown self.old) (EnterEcho (shown_known known.now) offer sender_joined of) ≡ true }
         ensures value { shown_speech result ≡ (if self.new.joined && not self.old.joined then One (to_all (Joined me)) else Silent) }
         ensures after { shown self.new ≡ hear_echo choice.now me (shown_known known.now) offer sender_joined of (shown self.old) }
     {

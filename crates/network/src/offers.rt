@@ -1,7 +1,7 @@
 // What a station does on messages about records: it answers queries, takes offers, and counts replies to its own operation.
 ghost use Rattle.std.specs.Prelude.{◌≡◌, true, if◌then◌else◌};
 ghost use Rattle.network.specs.Hearing.{take_offer, count_response, count_ack};
-ghost use Rattle.network.specs.Limits.{may_rise, replies_may_rise};
+ghost use Rattle.network.specs.Limits.{can_rise};
 ghost use Rattle.network.specs.Saying.{to_all, to_only, began_two};
 ghost use Rattle.network.specs.Shown.{shown, shown_speech};
 ghost use Rattle.network.specs.declared.content.Content.TheVariants.{Response, Update, Ack, UpdateEcho};
@@ -48,9 +48,7 @@ impl<R: Copy> Station<R, Stations> {
         tag: u32,
         choice: &Choice,
     ) -> Speech<R, Stations>
-        requires held { may_rise self.old.register.stamp.count ≡ true }
-        requires offered { may_rise offer.stamp.count ≡ true }
-        requires replies { replies_may_rise self.old.operation ≡ true }
+        requires { can_rise (shown self.old) (Response offer tag) ≡ true }
         ensures value { shown_speech result ≡ (if began_two self.old.operation self.new.operation then One (to_all (Update self.new.register tag me)) else Silent) }
         ensures after { shown self.new ≡ count_response choice.now me offer tag self.old.operation (shown self.old) }
     {
@@ -88,7 +86,7 @@ impl<R: Copy> Station<R, Stations> {
 
     // 10: counts an ack.
     pub(crate) fn hear_ack(&mut self, tag: u32, choice: &Choice) -> Speech<R, Stations>
-        requires { replies_may_rise self.old.operation ≡ true }
+        requires { can_rise (shown self.old) (Ack tag) ≡ true }
         ensures value { shown_speech result ≡ Silent }
         ensures after { shown self.new ≡ count_ack choice.now tag self.old.operation (shown self.old) }
     {

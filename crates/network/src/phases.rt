@@ -3,10 +3,11 @@ ghost use Rattle.std.specs.Prelude.{◌≡◌, ◌+◌, true, if◌then◌else�
 ghost use Rattle.network.specs.Changes.{begin};
 ghost use Rattle.network.specs.Hearing.{kept_register, begin_two, count_response, count_ack};
 ghost use Rattle.network.specs.Keeping.{tag_of, with_operation};
-ghost use Rattle.network.specs.Limits.{may_rise, replies_may_rise, can_begin};
+ghost use Rattle.network.specs.Limits.{may_rise, replies_may_rise, can_rise, can_begin};
 ghost use Rattle.network.specs.Polls.{with_reply, quorum};
 ghost use Rattle.network.specs.Saying.{began_two};
 ghost use Rattle.network.specs.Shown.{shown};
+ghost use Rattle.network.specs.declared.content.Content.TheVariants.{Response, Ack};
 ghost use Rattle.network.specs.declared.operation.Operation.TheVariants.{PhaseOne};
 
 use crate::operation::{Operation, Task};
@@ -86,7 +87,7 @@ impl<R: Copy> Station<R, Stations> {
     }
 
     // Counts a response in phase one with an equal tag, and says whether phase two began.
-    #[tactic(auto, unfolding(crate::specs::Stamps::newer))]
+    #[tactic(auto, unfolding(crate::specs::Stamps::newer, crate::specs::Limits::can_rise))]
     pub(crate) fn count_response(
         &mut self,
         me: u8,
@@ -94,40 +95,28 @@ impl<R: Copy> Station<R, Stations> {
         tag: u32,
         choice: &Choice,
     ) -> bool
-        requires held { may_rise self.old.register.stamp.count ≡ true }
-        requires offered { may_rise offer.stamp.count ≡ true }
-        requires replies { replies_may_rise self.old.operation ≡ true }
+        requires { can_rise (shown self.old) (Response offer tag) ≡ true }
         ensures value { result ≡ began_two self.old.operation self.new.operation }
         ensures after { shown self.new ≡ count_response choice.now me offer tag self.old.operation (shown self.old) }
     {
-        if let Operation::PhaseOne { task, poll } = self.operation {
+        if let Operation::PhaseOne { task, mut poll } = self.operation {
             if tag == poll.tag {
                 self.take_offer(offer);
-                return self.count_reply(me, task, poll, choice);
+                poll.rise();
+                if poll.is_quorum(choice) {
+                    self.begin_two(me, task, tag);
+                    return true;
+                }
+                self.operation = Operation::PhaseOne { task, poll };
             }
         }
         false
     }
 
-    // A reply more in phase one: at a quorum phase two begins.
-    fn count_reply(&mut self, me: u8, task: Task<R>, mut poll: Poll, choice: &Choice) -> bool
-        requires held { may_rise self.old.register.stamp.count ≡ true }
-        requires replies { may_rise poll.replies ≡ true }
-        ensures value { result ≡ quorum choice.now (with_reply poll) }
-        ensures after { shown self.new ≡ (if quorum choice.now (with_reply poll) then begin_two me task poll.tag (shown self.old) else with_operation (PhaseOne task (with_reply poll)) (shown self.old)) }
-    {
-        poll.rise();
-        if poll.is_quorum(choice) {
-            self.begin_two(me, task, poll.tag);
-            return true;
-        }
-        self.operation = Operation::PhaseOne { task, poll };
-        false
-    }
-
     // Counts an ack in phase two with an equal tag: at a quorum the operation ends.
+    #[tactic(auto, unfolding(crate::specs::Limits::can_rise))]
     pub(crate) fn count_ack(&mut self, tag: u32, choice: &Choice)
-        requires { replies_may_rise self.old.operation ≡ true }
+        requires { can_rise (shown self.old) (Ack tag) ≡ true }
         ensures { shown self.new ≡ count_ack choice.now tag self.old.operation (shown self.old) }
     {
         if let Operation::PhaseTwo {
