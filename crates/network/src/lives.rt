@@ -78,10 +78,9 @@ impl<R: Copy> Station<R, Stations> {
 fn first_stations(k: u16) -> Stations
     ensures { member result ≡ (λ p. nat_lt p (min k most_stations)) }
 {
-    let end = k.min(256);
     let mut all = Stations::none();
-    for p in 0..end {
-        all.insert(p as u8);
+    for p in (0..=u8::MAX).take(k.into()) {
+        all.insert(p);
     }
     all
 }
