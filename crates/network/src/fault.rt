@@ -38,6 +38,7 @@ pub enum StepFault {
 }
 
 impl LogFault {
+    // Not a From: a number alone would not read as the fault of a log.
     pub fn number(&self) -> u8
         ensures { result ≡ log_number self.now }
     {
@@ -49,6 +50,7 @@ impl LogFault {
 
 impl StepFault {
     // What a caller is told of this fault at the step of this ordinal, from 1.
+    // Not a From: it takes the ordinal too.
     pub fn refusal(&self, ordinal: usize) -> Refusal
         ensures { result ≡ told ordinal self.now }
     {

@@ -13,6 +13,7 @@ use stations::Stations;
 
 impl<R: Copy> Station<R, Stations> {
     // Applies a message to station `me`, and gives what it says; where a number cannot rise, nothing changes.
+    // `me` and `choice` stay two arguments: the one is a place of the table, the other is the network's, and rules name each.
     pub fn receive(
         &mut self,
         me: u8,
@@ -29,7 +30,8 @@ impl<R: Copy> Station<R, Stations> {
         }
     }
 
-    // Whether every number that the message could raise can rise.
+    // Whether every number that the message could raise can rise. No type holds what it says, since that is of a station and
+    // a message together: it is asked once, and required on the way down.
     #[tactic(auto, unfolding(crate::specs::Limits::can_rise))]
     fn can_rise(&self, content: &Content<R, Stations>) -> bool
         ensures { result ≡ can_rise (shown self.now) (shown_content content.now) }

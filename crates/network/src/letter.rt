@@ -2,6 +2,7 @@
 use crate::content::Content;
 
 // Whom it is for: every station, or one.
+// Not an Option: none would read as nobody, and this is everyone.
 #[derive(Clone, Copy)]
 pub enum To {
     All,
@@ -15,6 +16,7 @@ pub struct Letter<R, S> {
 }
 
 // What a station says on hearing a message: at most two letters, in this order.
+// Not two Options: a second letter would have a place without a first.
 #[derive(Clone, Copy)]
 pub enum Speech<R, S> {
     Silent,

@@ -11,6 +11,7 @@ pub enum Kind {
 }
 
 // What an operation is to do: to read, or to write a record.
+// Not an Option: none would read as nothing to do, and this is a read.
 #[derive(Clone, Copy)]
 pub enum Task<R> {
     Read,

@@ -1,4 +1,5 @@
 // What the network keeps of a station. `R` is the kind of record, `S` how a set of stations is kept.
+// A parameter and no `impl Model`: code keeps sets as `Stations`, rules as tests on numbers, and both read these very types.
 use crate::known::Known;
 use crate::operation::Operation;
 use crate::register::Register;
