@@ -1,5 +1,5 @@
 -- A step: the state after it, and what the caller is told.
-use Rattle.std.specs.Prelude.{ℕ, zero, suc, Bool, true, false, cond, List, [], ◌∷◌, length, Some, None, Option, Ok, Err, Result}
+use Rattle.std.specs.Prelude.{ℕ, Bool, true, false, cond, length, Some, None, Option, slice_get, Ok, Err, Result}
 use Rattle.network.specs.declared.entry.Entry.{Entry}
 use Rattle.network.specs.declared.fault.StepFault.{StepFault}
 use Rattle.network.specs.declared.operation.Operation.{Operation}
@@ -10,12 +10,6 @@ use Rattle.network.specs.Changes.{changed, said, actor}
 use Rattle.network.specs.Posting.{send}
 use Rattle.network.specs.Refusals.{step_mails, refusal}
 use Rattle.network.specs.States.{Setup, State}
-
--- the element at a place, if there is one
-unfoldable pub element : {A : Type 0} → List A → ℕ → Option A
-element [] i = None
-element (x ∷ xs) zero = Some x
-element (x ∷ xs) (suc i) = element xs i
 
 -- an operation in phase two became idle
 abbrev pub has_ended : {R : Type 0} → Operation R → Operation R → Bool
@@ -41,7 +35,7 @@ module _ {R : Type 0} where
   -- the operation that a step ended, as the log then shows it
   abbrev pub ended_at : ℕ → State R → State R → Option (Entry R)
   ended_at q s t =
-      cond (has_ended (s.stations q).operation (t.stations q).operation) (element t.log.entries (t.log.latest q)) None
+      cond (has_ended (s.stations q).operation (t.stations q).operation) (slice_get t.log.entries (t.log.latest q)) None
 
   -- what an accepted step came to
   abbrev pub done : Setup R → Step R → State R → Done R

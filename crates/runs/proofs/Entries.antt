@@ -1,6 +1,6 @@
 -- Lists by places, apart from runs: an element of a list that grows at its end, or in which one element changes; and what
 -- hearing a message does to a log entry. Rests on the definitions alone.
-use Rattle.std.proofs.Common.{◌≡◌, ℕ, zero, suc, ◌+◌, ◌<◌, true, false, List, [], ◌∷◌, ◌++◌, length, Some, sym, refl, ap, ◌∙◌, arith}
+use Rattle.std.proofs.Common.{◌≡◌, ℕ, zero, suc, true, false, List, [], ◌∷◌, ◌++◌, length, Some, sym, refl, ap, ◌∙◌, arith, slice_get}
 use Rattle.std.proofs.lemmas.Bool.Decides.{nat_tests}
 use Rattle.settings.specs.declared.choice.Choice.{Choice}
 use Rattle.network.specs.declared.content.Content.{Content}
@@ -11,38 +11,18 @@ use Rattle.network.specs.Hearing.{hear}
 use Rattle.network.specs.Keeping.{under_way}
 use Rattle.network.specs.Knowing.{Set}
 use Rattle.network.specs.Logs.{changed_at}
-use Rattle.network.specs.Steps.{element}
 use Rattle.runs.proofs.Accepted.{some_is_not_none}
 
 module _ {A : Type 0} where
-  -- an element stands at a place below the length
-  pub element_below : (xs : List A) (i : ℕ) (a : A) → element xs i ≡ Some a → i < length xs
-  unfolding element
-  element_below [] i a e = absurd (some_is_not_none a (sym e))
-  element_below (x ∷ xs) zero a e = omega arith
-  element_below (x ∷ xs) (suc i) a e = omega (arith, element_below xs i a e)
-
-  pub element_there : (xs : List A) (i : ℕ) → i < length xs → (a : A) × (element xs i ≡ Some a)
-  unfolding element
-  element_there [] i l = absurd (omega arith)
-  element_there (x ∷ xs) zero l = (x, refl)
-  element_there (x ∷ xs) (suc i) l = element_there xs i (omega arith)
-
   -- one more at the end
-  pub element_old : (xs ys : List A) (i : ℕ) (a : A) → element xs i ≡ Some a → element (xs ++ ys) i ≡ Some a
-  unfolding element
+  pub element_old : (xs ys : List A) (i : ℕ) (a : A) → slice_get xs i ≡ Some a → slice_get (xs ++ ys) i ≡ Some a
   element_old [] ys i a e = absurd (some_is_not_none a (sym e))
   element_old (x ∷ xs) ys zero a e = e
   element_old (x ∷ xs) ys (suc i) a e = element_old xs ys i a e
 
-  pub element_new : (xs : List A) (a : A) → element (xs ++ (a ∷ [])) (length xs) ≡ Some a
-  unfolding element
+  pub element_new : (xs : List A) (a : A) → slice_get (xs ++ (a ∷ [])) (length xs) ≡ Some a
   element_new [] a = refl
   element_new (x ∷ xs) a = element_new xs a
-
-  pub length_one_more : (xs : List A) (a : A) → length (xs ++ (a ∷ [])) ≡ length xs + 1
-  length_one_more [] a = refl
-  length_one_more (x ∷ xs) a = omega (arith, length_one_more xs a)
 
   -- one element changed
   pub length_changed : (i : ℕ) (f : A → A) (xs : List A) → length (changed_at i f xs) ≡ length xs
@@ -51,14 +31,14 @@ module _ {A : Type 0} where
   length_changed zero f (x ∷ xs) = refl
   length_changed (suc i) f (x ∷ xs) = omega (arith, length_changed i f xs)
 
-  pub changed_here : (i : ℕ) (f : A → A) (xs : List A) (a : A) → element xs i ≡ Some a → element (changed_at i f xs) i ≡ Some (f a)
-  unfolding changed_at element
+  pub changed_here : (i : ℕ) (f : A → A) (xs : List A) (a : A) → slice_get xs i ≡ Some a → slice_get (changed_at i f xs) i ≡ Some (f a)
+  unfolding changed_at
   changed_here i f [] a e = absurd (some_is_not_none a (sym e))
   changed_here zero f (x ∷ xs) a e = let g : x ≡ a = cc in ap (λ y. Some (f y)) g
   changed_here (suc i) f (x ∷ xs) a e = changed_here i f xs a e
 
-  pub changed_elsewhere : (i k : ℕ) (f : A → A) (xs : List A) → (k ≡ i → ⊥) → element (changed_at i f xs) k ≡ element xs k
-  unfolding changed_at element
+  pub changed_elsewhere : (i k : ℕ) (f : A → A) (xs : List A) → (k ≡ i → ⊥) → slice_get (changed_at i f xs) k ≡ slice_get xs k
+  unfolding changed_at
   changed_elsewhere i k f [] ne = refl
   changed_elsewhere zero zero f (x ∷ xs) ne = absurd (ne refl)
   changed_elsewhere zero (suc k) f (x ∷ xs) ne = refl

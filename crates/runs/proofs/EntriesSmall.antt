@@ -1,6 +1,6 @@
 -- Numbers of the log stay small: an entry's ticks are ticks of the clock, and a reply that it counts is a copy that waits no
 -- more. Rests on `Operations` and `SmallNumbers`.
-use Rattle.std.proofs.Common.{◌≡◌, ℕ, suc, ◌+◌, ◌*◌, ◌<◌, ◌≤◌, Some, sym, ap, ◌∙◌, subst, inl, inr, le_trans, arith}
+use Rattle.std.proofs.Common.{◌≡◌, ℕ, suc, ◌+◌, ◌*◌, ◌<◌, ◌≤◌, Some, sym, ap, ◌∙◌, subst, inl, inr, le_trans, arith, slice_get}
 use Rattle.std.proofs.lemmas.Bool.{cases_eq, cases_lt}
 use Rattle.network.specs.declared.content.Content.{Content}
 use Rattle.network.specs.declared.entry.Entry.{Entry}
@@ -11,7 +11,6 @@ use Rattle.network.specs.Knowing.{Set}
 use Rattle.network.specs.Logs.{Log}
 use Rattle.network.specs.Refusals.{last_tick}
 use Rattle.network.specs.States.{Copy}
-use Rattle.network.specs.Steps.{element}
 use Rattle.runs.specs.Small.{SmallEntry, most_messages}
 use Rattle.runs.proofs.Positions.{Run, station, clock, Accepted, onward}
 use Rattle.runs.proofs.Accepted.{some_is_not_none, begins}
@@ -42,14 +41,14 @@ module _ {R : Type 0} (z : Run R) where
   record Few {x : ℕ} (o : Logged z x) (i : ℕ) : Type 0 where
     before : o.begun < i
     entry : Entry R
-    stands : element (entries z i) x ≡ Some entry
+    stands : slice_get (entries z i) x ≡ Some entry
     counts : CountsMost (passed z i o.owner) entry
 
   module _ {x : ℕ} (o : Logged z x) (i : ℕ) (f : Few o i) where
-    few_same : element (entries z (suc i)) x ≡ Some f.entry → Few o (suc i)
+    few_same : slice_get (entries z (suc i)) x ≡ Some f.entry → Few o (suc i)
     few_same h = record { before = omega (arith, f.before); entry = f.entry; stands = h; counts = counts_on _ _ _ (passed_on z i o.owner) f.counts }
 
-    few_heard : (n : ℕ) (c : Copy R) → Accepted z i (step.Deliver n o.owner) → element (entries z (suc i)) x ≡ Some (hearing z i o.owner c f.entry) → Few o (suc i)
+    few_heard : (n : ℕ) (c : Copy R) → Accepted z i (step.Deliver n o.owner) → slice_get (entries z (suc i)) x ≡ Some (hearing z i o.owner c f.entry) → Few o (suc i)
     few_heard n c a h =
         record {
           before = omega (arith, f.before);
@@ -59,20 +58,20 @@ module _ {R : Type 0} (z : Run R) where
         }
 
     few_step : LogStep z i → Few o (suc i)
-    few_step (rests d g) = few_same (ap (λ (l : Log R). element l.entries x) d ∙ f.stands)
-    few_step (opens p t a d g) = few_same (ap (λ (l : Log R). element l.entries x) d ∙ element_old (entries z i) _ x f.entry f.stands)
+    few_step (rests d g) = few_same (ap (λ (l : Log R). slice_get l.entries x) d ∙ f.stands)
+    few_step (opens p t a d g) = few_same (ap (λ (l : Log R). slice_get l.entries x) d ∙ element_old (entries z i) _ x f.entry f.stands)
     few_step (heeds p n c a d y g) =
         elim (cases_eq o.owner p) [
           | inr k ↦
-              few_same (ap (λ (l : Log R). element l.entries x) d
+              few_same (ap (λ (l : Log R). slice_get l.entries x) d
               ∙ left_alone z i p c (open_entry_of z i p) x f.entry f.stands (λ same b. k (owned z o i f.before p same b)))
           | inl k ↦
               elim (cases_eq x (latest z i p)) [
-                | inr m ↦ few_same (ap (λ (l : Log R). element l.entries x) d ∙ changed_elsewhere (latest z i p) x (hearing z i p c) (entries z i) m ∙ f.stands)
+                | inr m ↦ few_same (ap (λ (l : Log R). slice_get l.entries x) d ∙ changed_elsewhere (latest z i p) x (hearing z i p c) (entries z i) m ∙ f.stands)
                 | inl m ↦
                     few_heard n c (subst (λ q. Accepted z i (step.Deliver n q)) (sym k) a)
-                    (ap (λ (l : Log R). element l.entries x) d ∙ ap (element _) m
-                    ∙ changed_here (latest z i p) (hearing z i p c) (entries z i) f.entry (ap (element (entries z i)) (sym m) ∙ f.stands)
+                    (ap (λ (l : Log R). slice_get l.entries x) d ∙ ap (slice_get _) m
+                    ∙ changed_here (latest z i p) (hearing z i p c) (entries z i) f.entry (ap (slice_get (entries z i)) (sym m) ∙ f.stands)
                     ∙ ap (λ q. Some (hearing z i q c f.entry)) (sym k))
               ]
         ]
@@ -83,7 +82,7 @@ module _ {R : Type 0} (z : Run R) where
       first : Few o (suc o.begun)
       first = record { before = omega arith; entry = _; stands = entry_begun z o; counts = record { one = omega arith; two = omega arith } }
 
-  pub entries_small : (i x : ℕ) (e : Entry R) → element (entries z i) x ≡ Some e → SmallEntry e
+  pub entries_small : (i x : ℕ) (e : Entry R) → slice_get (entries z i) x ≡ Some e → SmallEntry e
   entries_small i x e h =
       let (o, s) = logged z i x e h in
       let f = few o i s.before in

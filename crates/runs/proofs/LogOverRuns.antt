@@ -1,6 +1,6 @@
 -- The log along a run: whoever has an operation under way has its entry, not yet ended, as its latest;
 -- an entry stays that of its operation, and one that ended never changes. Rests on `Accepted`, `Changes` and `Entries`.
-use Rattle.std.proofs.Common.{◌≡◌, ℕ, zero, suc, ◌≤◌, Bool, true, false, cond, ltb, List, is_some, Some, None, sym, refl, ap, ◌∙◌, subst, inl, inr}
+use Rattle.std.proofs.Common.{◌≡◌, ℕ, zero, suc, ◌≤◌, Bool, true, false, cond, ltb, List, is_some, Some, None, sym, refl, ap, ◌∙◌, subst, inl, inr, slice_get}
 use Rattle.std.proofs.lemmas.Bool.{both_ways, cases_eq, cases_Bool}
 use Rattle.stations.specs.Members.{put}
 use Rattle.stations.proofs.Counting.{put_here, put_other}
@@ -16,7 +16,6 @@ use Rattle.network.specs.Keeping.{under_way, unused_station, founder, newcomer}
 use Rattle.network.specs.Knowing.{Set}
 use Rattle.network.specs.Logs.{Log, open_entry, opened, at_latest, changed_at}
 use Rattle.network.specs.States.{Copy}
-use Rattle.network.specs.Steps.{element}
 use Rattle.runs.proofs.Positions.{Run, state, station, clock, Accepted, OutcomeOf, goes, stays, outcome_of, onward}
 use Rattle.runs.proofs.Accepted.{step_of, ticks, enters, leaves, crashes, begins, hears}
 use Rattle.runs.proofs.Start.{station_start}
@@ -82,13 +81,13 @@ module _ {R : Type 0} (z : Run R) where
   -- q's latest entry is q's, and has not ended
   pub record OpenEntry (i q : ℕ) : Type 0 where
     pub entry : Entry R
-    pub stands : element (entries i) (latest i q) ≡ Some entry
+    pub stands : slice_get (entries i) (latest i q) ≡ Some entry
     pub own : entry.station ≡ q
     pub not_ended : entry.end ≡ None
 
   -- the entry at a place that p's hearing leaves alone
-  pub left_alone : (i p : ℕ) (c : Copy R) → (busy i p ≡ true → OpenEntry i p) → (n : ℕ) (e : Entry R) → element (entries i) n ≡ Some e → ((n ≡ latest i p) → (busy i p ≡ true) → ⊥)
-      → element (changed_at (latest i p) (hearing i p c) (entries i)) n ≡ Some e
+  pub left_alone : (i p : ℕ) (c : Copy R) → (busy i p ≡ true → OpenEntry i p) → (n : ℕ) (e : Entry R) → slice_get (entries i) n ≡ Some e → ((n ≡ latest i p) → (busy i p ≡ true) → ⊥)
+      → slice_get (changed_at (latest i p) (hearing i p c) (entries i)) n ≡ Some e
   left_alone i p c mine n e h ne =
       elim (cases_eq n (latest i p)) [
         | inr k ↦ changed_elsewhere (latest i p) n (hearing i p c) (entries i) k ∙ h
@@ -96,8 +95,8 @@ module _ {R : Type 0} (z : Run R) where
             elim (cases_Bool (busy i p)) [
               | inl b ↦ absurd (ne k b)
               | inr b ↦
-                  subst (λ m. element (changed_at (latest i p) (hearing i p c) (entries i)) m ≡ Some e) (sym k)
-                  (changed_here (latest i p) (hearing i p c) (entries i) e (subst (λ m. element (entries i) m ≡ Some e) k h) ∙ ap Some (idle_entry (clock z i) c.content (station z i p) _ e b))
+                  subst (λ m. slice_get (changed_at (latest i p) (hearing i p c) (entries i)) m ≡ Some e) (sym k)
+                  (changed_here (latest i p) (hearing i p c) (entries i) e (subst (λ m. slice_get (entries i) m ≡ Some e) k h) ∙ ap Some (idle_entry (clock z i) c.content (station z i p) _ e b))
             ]
       ]
 
@@ -113,13 +112,13 @@ module _ {R : Type 0} (z : Run R) where
       by : LogStep i → ((p : ℕ) → busy i p ≡ true → OpenEntry i p) → OpenEntry (suc i) q
       by (rests e f) before =
           let o = before q (sym (ap under_way (f q)) ∙ h) in
-          record { entry = o.entry; stands = ap (λ (l : Log R). element l.entries (l.latest q)) e ∙ o.stands; own = o.own; not_ended = o.not_ended }
+          record { entry = o.entry; stands = ap (λ (l : Log R). slice_get l.entries (l.latest q)) e ∙ o.stands; own = o.own; not_ended = o.not_ended }
       by (opens p t b e f) before =
           elim (cases_eq q p) [
             | inl k ↦
                 record {
                   entry = opened z.setup.first p t (clock z i);
-                  stands = ap (λ (l : Log R). element l.entries (l.latest q)) e ∙ ap (element _) (ap (put (state z i).log.latest p _) k ∙ put_here _ p _) ∙ element_new (entries i) _;
+                  stands = ap (λ (l : Log R). slice_get l.entries (l.latest q)) e ∙ ap (slice_get _) (ap (put (state z i).log.latest p _) k ∙ put_here _ p _) ∙ element_new (entries i) _;
                   own = sym k;
                   not_ended = refl;
                 }
@@ -127,7 +126,7 @@ module _ {R : Type 0} (z : Run R) where
                 let o = before q (sym (ap (λ x. under_way x.operation) (f q k)) ∙ h) in
                 record {
                   entry = o.entry;
-                  stands = ap (λ (l : Log R). element l.entries (l.latest q)) e ∙ ap (element _) (put_other _ p _ q k) ∙ element_old (entries i) _ _ _ o.stands;
+                  stands = ap (λ (l : Log R). slice_get l.entries (l.latest q)) e ∙ ap (slice_get _) (put_other _ p _ q k) ∙ element_old (entries i) _ _ _ o.stands;
                   own = o.own;
                   not_ended = o.not_ended;
                 }
@@ -139,7 +138,7 @@ module _ {R : Type 0} (z : Run R) where
                 let o = before p (heard_under_way z.setup.choice p c.content (station z i p) way) in
                 record {
                   entry = hearing i p c o.entry;
-                  stands = ap (λ (l : Log R). element l.entries (l.latest q)) e ∙ ap (λ r. element (changed_at (latest i p) (hearing i p c) (entries i)) (latest i r)) k
+                  stands = ap (λ (l : Log R). slice_get l.entries (l.latest q)) e ∙ ap (λ r. slice_get (changed_at (latest i p) (hearing i p c) (entries i)) (latest i r)) k
                       ∙ changed_here (latest i p) (hearing i p c) (entries i) o.entry o.stands;
                   own = (heard_same (clock z i) c.content (station z i p) _ o.entry).station ∙ o.own ∙ sym k;
                   not_ended = open_stays z.setup.choice (clock z i) p c.content (station z i p) o.entry way ∙ o.not_ended;
@@ -148,7 +147,7 @@ module _ {R : Type 0} (z : Run R) where
                 let o = before q (sym (ap (λ x. under_way x.operation) (f q k)) ∙ h) in
                 record {
                   entry = o.entry;
-                  stands = ap (λ (l : Log R). element l.entries (l.latest q)) e
+                  stands = ap (λ (l : Log R). slice_get l.entries (l.latest q)) e
                       ∙ left_alone i p c (before p) (latest i q) o.entry o.stands (λ same_place b. k (apart (before p b) o same_place));
                   own = o.own;
                   not_ended = o.not_ended;
@@ -156,27 +155,27 @@ module _ {R : Type 0} (z : Run R) where
           ]
         where
           apart : OpenEntry i p → OpenEntry i q → latest i q ≡ latest i p → q ≡ p
-          apart a o g = let s : Some o.entry ≡ Some a.entry = sym o.stands ∙ ap (element (entries i)) g ∙ a.stands in let t : o.entry ≡ a.entry = cc in sym o.own ∙ ap (λ (x : Entry R). x.station) t ∙ a.own
+          apart a o g = let s : Some o.entry ≡ Some a.entry = sym o.stands ∙ ap (slice_get (entries i)) g ∙ a.stands in let t : o.entry ≡ a.entry = cc in sym o.own ∙ ap (λ (x : Entry R). x.station) t ∙ a.own
 
   -- what became of an entry: it is still that of its operation, and if it had ended it is the same
   pub record KeptEntry (e : Entry R) (j x : ℕ) : Type 0 where
     pub entry : Entry R
-    pub stands : element (entries j) x ≡ Some entry
+    pub stands : slice_get (entries j) x ≡ Some entry
     pub of_same : SameOperation e entry
     pub unchanged : is_some e.end ≡ true → entry ≡ e
 
-  entry_step : (i x : ℕ) (e : Entry R) → element (entries i) x ≡ Some e → KeptEntry e (suc i) x
+  entry_step : (i x : ℕ) (e : Entry R) → slice_get (entries i) x ≡ Some e → KeptEntry e (suc i) x
   entry_step i x e h = by (log_step i)
     where
       by : LogStep i → KeptEntry e (suc i) x
-      by (rests g f) = record { entry = e; stands = ap (λ (l : Log R). element l.entries x) g ∙ h; of_same = same_itself e; unchanged = λ t. refl }
-      by (opens p t b g f) = record { entry = e; stands = ap (λ (l : Log R). element l.entries x) g ∙ element_old (entries i) _ x e h; of_same = same_itself e; unchanged = λ t. refl }
+      by (rests g f) = record { entry = e; stands = ap (λ (l : Log R). slice_get l.entries x) g ∙ h; of_same = same_itself e; unchanged = λ t. refl }
+      by (opens p t b g f) = record { entry = e; stands = ap (λ (l : Log R). slice_get l.entries x) g ∙ element_old (entries i) _ x e h; of_same = same_itself e; unchanged = λ t. refl }
       by (heeds p n c a g y f) =
           elim (cases_eq x (latest i p)) [
             | inl k ↦
                 record {
                   entry = hearing i p c e;
-                  stands = ap (λ (l : Log R). element l.entries x) g ∙ ap (element _) k ∙ changed_here (latest i p) (hearing i p c) (entries i) e (subst (λ m. element (entries i) m ≡ Some e) k h);
+                  stands = ap (λ (l : Log R). slice_get l.entries x) g ∙ ap (slice_get _) k ∙ changed_here (latest i p) (hearing i p c) (entries i) e (subst (λ m. slice_get (entries i) m ≡ Some e) k h);
                   of_same = heard_same (clock z i) c.content (station z i p) _ e;
                   unchanged = λ t. elim (cases_Bool (busy i p)) [
                     | inl b ↦ absurd (both_ways _ (ended_not p (open_entry_of i p b) k) t)
@@ -184,13 +183,13 @@ module _ {R : Type 0} (z : Run R) where
                   ];
                 }
             | inr k ↦
-                record { entry = e; stands = ap (λ (l : Log R). element l.entries x) g ∙ changed_elsewhere (latest i p) x (hearing i p c) (entries i) k ∙ h; of_same = same_itself e; unchanged = λ t. refl }
+                record { entry = e; stands = ap (λ (l : Log R). slice_get l.entries x) g ∙ changed_elsewhere (latest i p) x (hearing i p c) (entries i) k ∙ h; of_same = same_itself e; unchanged = λ t. refl }
           ]
         where
           ended_not : (p : ℕ) → OpenEntry i p → x ≡ latest i p → is_some e.end ≡ false
-          ended_not p o k = let s : Some e ≡ Some o.entry = sym h ∙ ap (element (entries i)) k ∙ o.stands in let t : e ≡ o.entry = cc in ap (λ (d : Entry R). is_some d.end) t ∙ ap is_some o.not_ended
+          ended_not p o k = let s : Some e ≡ Some o.entry = sym h ∙ ap (slice_get (entries i)) k ∙ o.stands in let t : e ≡ o.entry = cc in ap (λ (d : Entry R). is_some d.end) t ∙ ap is_some o.not_ended
 
-  pub entry_on : (x : ℕ) (e : Entry R) (i j : ℕ) → i ≤ j → element (entries i) x ≡ Some e → KeptEntry e j x
+  pub entry_on : (x : ℕ) (e : Entry R) (i j : ℕ) → i ≤ j → slice_get (entries i) x ≡ Some e → KeptEntry e j x
   entry_on x e i j l h =
       onward z (λ k. KeptEntry e k x) (λ k o. more k o (entry_step k x o.entry o.stands)) i j l
       (record { entry = e; stands = h; of_same = same_itself e; unchanged = λ t. refl })

@@ -1,6 +1,6 @@
 -- The log's places are the operations, as it is promised: each accepted read or write stands at the place where the log then
 -- ended, and of a write shows its record; there are no other places; and what has ended stays. Rests on `Turns`.
-use Rattle.std.proofs.Common.{◌≡◌, ℕ, ◌<◌, true, eqb, length, Some, sym, refl, ap, ◌∙◌, subst}
+use Rattle.std.proofs.Common.{◌≡◌, ℕ, ◌<◌, true, eqb, length, Some, sym, refl, ap, ◌∙◌, subst, slice_get}
 use Rattle.std.proofs.lemmas.Bool.{both_ways, eqb-true, eq-eqb}
 use Rattle.network.specs.declared.entry.Entry.{Entry}
 use Rattle.network.specs.declared.operation.Task.{Task}
@@ -9,7 +9,6 @@ use Rattle.network.specs.declared.step.Step.{Step}
 use Rattle.network.specs.declared.step.Step.TheVariants as step
 use Rattle.network.specs.Hearing.{kind_of}
 use Rattle.network.specs.Promises.{begins_at, kind_ordered, ShowsOrdered, LogTells, LogOnlyTells, LogShows, LogStays}
-use Rattle.network.specs.Steps.{element}
 use Rattle.runs.proofs.Positions.{Run, state, clock, Accepted}
 use Rattle.runs.proofs.Accepted.{step_of}
 use Rattle.runs.proofs.LogOverRuns.{entries, entry_on}
@@ -20,7 +19,7 @@ module _ {R : Type 0} (z : Run R) where
   -- what the promise says of the read or write of step i at a later position
   Told : ℕ → ℕ → Step R → ℕ → Type 0
   Told i p x j =
-      (e : Entry R) × (element (entries z j) (length (entries z i)) ≡ Some e) × (e.station ≡ p) × (e.kind ≡ kind_ordered x) × (e.begin ≡ clock z i)
+      (e : Entry R) × (slice_get (entries z j) (length (entries z i)) ≡ Some e) × (e.station ≡ p) × (e.kind ≡ kind_ordered x) × (e.begin ≡ clock z i)
       × ShowsOrdered x e.value
 
   begun_told : (i p q : ℕ) (t : Task R) → Accepted z i (step_of z q t) → eqb q p ≡ true → (j : ℕ) → i < j → Told i p (step_of z q t) j
@@ -62,7 +61,7 @@ module _ {R : Type 0} (z : Run R) where
   BegunBy : ℕ → Entry R → Type 0
   BegunBy y e = (i : ℕ) × (x : Step R) × Accepted z i x × (begins_at x e.station ≡ true) × (y ≡ length (entries z i))
 
-  begun_by : (i y : ℕ) (e : Entry R) → element (entries z i) y ≡ Some e → BegunBy y e
+  begun_by : (i y : ℕ) (e : Entry R) → slice_get (entries z i) y ≡ Some e → BegunBy y e
   unfolding BegunBy
   begun_by i y e h =
       let (o, s) = logged z i y e h in

@@ -1,18 +1,17 @@
 -- The single order, apart from runs: operations that are sorted by stamp, writes before reads, then by place, stand in an order
 -- as one register would give it. Rests on `Sorting` and the order of stamps.
-use Rattle.std.proofs.Common.{◌≡◌, ℕ, ◌<◌, Bool, true, false, not, ◌&&◌, ◌||◌, ltb, ◌⊎◌, List, [], ◌∷◌, ◌++◌, length, Some, None, Option, sym, refl, ap, ◌∙◌, subst, inl, inr, arith}
+use Rattle.std.proofs.Common.{◌≡◌, ℕ, ◌<◌, Bool, true, false, not, ◌&&◌, ◌||◌, ltb, ◌⊎◌, List, [], ◌∷◌, ◌++◌, length, Some, None, Option, sym, refl, ap, ◌∙◌, subst, inl, inr, arith, slice_get}
 use Rattle.std.specs.Option.{option_to_list}
 use Rattle.std.proofs.lemmas.Bool.{both_ways}
 use Rattle.std.proofs.lemmas.Bool.Decides.{nat_tests}
+use Rattle.std.proofs.lemmas.Option.{slice_get_within}
 use Rattle.network.specs.declared.entry.Entry.{Entry}
 use Rattle.network.specs.declared.operation.Kind.{Kind}
 use Rattle.network.specs.declared.operation.Kind.TheVariants.{Read, Write}
 use Rattle.network.specs.declared.stamp.Stamp.{Stamp}
 use Rattle.network.specs.Promises.{In, Ahead, Distinct, picked, AsOneRegister}
 use Rattle.network.specs.Stamps.{higher, first_stamp}
-use Rattle.network.specs.Steps.{element}
 use Rattle.runs.proofs.Stamps.{UpTo, up_to_itself, up_to_trans, higher_not_below, higher_than_up_to, higher_from, neither_higher, first_up_to}
-use Rattle.runs.proofs.Entries.{element_below}
 use Rattle.runs.proofs.Mails.{Among}
 use Rattle.runs.proofs.Sorting.{StrictOrder, Rising, sorted, sorted_has, sorted_only, sorted_rising, rising_distinct, rising_ahead, among_in, at_among}
 
@@ -89,29 +88,29 @@ one_more r e es f g = by e.kind f g
 module _ {R : Type 0} (first : R) (log : List (Entry R)) where
   -- r is the record under the stamp t: the first one, or that of a write in the order
   abbrev pub UnderStamp : (ℕ → Bool) → (ℕ → Stamp) → Stamp → R → Type 0
-  UnderStamp inside stamp t r = ((t ≡ first_stamp) × (r ≡ first)) ⊎ ((y : ℕ) × (f : Entry R) × (inside y ≡ true) × (element log y ≡ Some f) × (f.kind ≡ Write) × (stamp y ≡ t) × (r ≡ f.value))
+  UnderStamp inside stamp t r = ((t ≡ first_stamp) × (r ≡ first)) ⊎ ((y : ℕ) × (f : Entry R) × (inside y ≡ true) × (slice_get log y ≡ Some f) × (f.kind ≡ Write) × (stamp y ≡ t) × (r ≡ f.value))
 
   -- which places of the log are in the order, and the stamp of each
   pub record Stamped : Type 0 where
     pub inside : ℕ → Bool
     pub stamp : ℕ → Stamp
-    pub there : (x : ℕ) → inside x ≡ true → (e : Entry R) × (element log x ≡ Some e)
+    pub there : (x : ℕ) → inside x ≡ true → (e : Entry R) × (slice_get log x ≡ Some e)
     -- two writes have different stamps, which are higher than the first
-    pub writes_apart : (x y : ℕ) (e f : Entry R) → inside x ≡ true → inside y ≡ true → element log x ≡ Some e → element log y ≡ Some f → e.kind ≡ Write → f.kind ≡ Write → stamp x ≡ stamp y → x ≡ y
-    pub write_higher : (x : ℕ) (e : Entry R) → inside x ≡ true → element log x ≡ Some e → e.kind ≡ Write → higher (stamp x) first_stamp ≡ true
+    pub writes_apart : (x y : ℕ) (e f : Entry R) → inside x ≡ true → inside y ≡ true → slice_get log x ≡ Some e → slice_get log y ≡ Some f → e.kind ≡ Write → f.kind ≡ Write → stamp x ≡ stamp y → x ≡ y
+    pub write_higher : (x : ℕ) (e : Entry R) → inside x ≡ true → slice_get log x ≡ Some e → e.kind ≡ Write → higher (stamp x) first_stamp ≡ true
     -- a read gives the record under its stamp
-    pub read_gives : (x : ℕ) (e : Entry R) → inside x ≡ true → element log x ≡ Some e → e.kind ≡ Read → UnderStamp inside stamp (stamp x) e.value
+    pub read_gives : (x : ℕ) (e : Entry R) → inside x ≡ true → slice_get log x ≡ Some e → e.kind ≡ Read → UnderStamp inside stamp (stamp x) e.value
 
   module _ (s : Stamped) where
     before : ℕ → ℕ → Bool
-    before x y = comes_first (s.stamp x) (s.stamp y) (of_write (element log x)) (of_write (element log y)) x y
+    before x y = comes_first (s.stamp x) (s.stamp y) (of_write (slice_get log x)) (of_write (slice_get log y)) x y
 
     strict : StrictOrder before
     unfolding before
     strict =
         record {
           one_way = λ x y h. first_one_way _ _ _ _ x y h;
-          onward = λ x y w h k. first_onward _ (s.stamp y) _ _ (of_write (element log y)) _ x y w h k;
+          onward = λ x y w h k. first_onward _ (s.stamp y) _ _ (of_write (slice_get log y)) _ x y w h k;
           some_way = λ x y n h. first_some_way _ _ _ _ x y n h;
         }
 
@@ -125,7 +124,7 @@ module _ {R : Type 0} (first : R) (log : List (Entry R)) where
 
     order_among : (x : ℕ) → s.inside x ≡ true → Among x order
     unfolding order
-    order_among x h = let p = s.there x h in sorted_has before s.inside (length log) x (element_below log x p.0 p.1) h
+    order_among x h = let p = s.there x h in sorted_has before s.inside (length log) x (slice_get_within log x p.0 p.1) h
 
     among_inside : (x : ℕ) → Among x order → s.inside x ≡ true
     unfolding order
@@ -141,25 +140,25 @@ module _ {R : Type 0} (first : R) (log : List (Entry R)) where
     order_only x h = among_inside x (at_among x order h.0 h.1)
 
     -- x, of an earlier place, stands ahead of y if its stamp is not higher, and lower where y writes
-    pub order_ahead : (x y : ℕ) (f : Entry R) → In x order → In y order → x < y → element log y ≡ Some f → UpTo (s.stamp x) (s.stamp y) → (f.kind ≡ Write → higher (s.stamp y) (s.stamp x) ≡ true) → Ahead x y order
+    pub order_ahead : (x y : ℕ) (f : Entry R) → In x order → In y order → x < y → slice_get log y ≡ Some f → UpTo (s.stamp x) (s.stamp y) → (f.kind ≡ Write → higher (s.stamp y) (s.stamp x) ≡ true) → Ahead x y order
     unfolding before
     order_ahead x y f a b l e u w =
         rising_ahead before strict x y order order_rising (at_among x order a.0 a.1) (at_among y order b.0 b.1)
-        (first_by _ _ (of_write (element log x)) _ x y l u (λ h. w (writing_kind f.kind (sym (ap of_write e) ∙ h))))
+        (first_by _ _ (of_write (slice_get log x)) _ x y l u (λ h. w (writing_kind f.kind (sym (ap of_write e) ∙ h))))
 
     abbrev Current : Stamp → R → Type 0
     Current t r = UnderStamp s.inside s.stamp t r
 
     -- an operation that reads does not write
-    not_both : (x : ℕ) (e f : Entry R) → element log x ≡ Some e → e.kind ≡ Read → element log x ≡ Some f → f.kind ≡ Write → ⊥
+    not_both : (x : ℕ) (e f : Entry R) → slice_get log x ≡ Some e → e.kind ≡ Read → slice_get log x ≡ Some f → f.kind ≡ Write → ⊥
     not_both x e f a k b w = both_ways _ (ap of_write a ∙ ap is_writing k) (ap of_write b ∙ ap is_writing w)
 
     -- a write whose stamp is the current one made the current record
-    current_write : (t : Stamp) (r : R) (y : ℕ) (f : Entry R) → Current t r → s.inside y ≡ true → element log y ≡ Some f → f.kind ≡ Write → s.stamp y ≡ t → f.value ≡ r
+    current_write : (t : Stamp) (r : R) (y : ℕ) (f : Entry R) → Current t r → s.inside y ≡ true → slice_get log y ≡ Some f → f.kind ≡ Write → s.stamp y ≡ t → f.value ≡ r
     current_write t r y f (inl c) i e k h = absurd (both_ways _ (up_to_itself first_stamp) (subst (λ v. higher v first_stamp ≡ true) (h ∙ c.0) (s.write_higher y f i e k)))
     current_write t r y f (inr (y', f', i', e', k', h', v)) i e k h =
         let p = s.writes_apart y y' f f' i i' e e' k k' (h ∙ sym h') in
-        let q : Some f ≡ Some f' = sym e ∙ ap (element log) p ∙ e' in
+        let q : Some f ≡ Some f' = sym e ∙ ap (slice_get log) p ∙ e' in
         let g : f ≡ f' = cc in
         ap (λ (d : Entry R). d.value) g ∙ sym v
 
@@ -169,9 +168,9 @@ module _ {R : Type 0} (first : R) (log : List (Entry R)) where
       rising : Rising before xs
       insides : (x : ℕ) → Among x xs → s.inside x ≡ true
       not_below : (x : ℕ) → Among x xs → UpTo t (s.stamp x)
-      writes_done : (y : ℕ) (f : Entry R) → s.inside y ≡ true → element log y ≡ Some f → f.kind ≡ Write → UpTo (s.stamp y) t ⊎ Among y xs
+      writes_done : (y : ℕ) (f : Entry R) → s.inside y ≡ true → slice_get log y ≡ Some f → f.kind ≡ Write → UpTo (s.stamp y) t ⊎ Among y xs
 
-    read_agrees : (t : Stamp) (r : R) (x : ℕ) (xs : List ℕ) (e : Entry R) → LeftOver t r (x ∷ xs) → element log x ≡ Some e → e.kind ≡ Read → e.value ≡ r
+    read_agrees : (t : Stamp) (r : R) (x : ℕ) (xs : List ℕ) (e : Entry R) → LeftOver t r (x ∷ xs) → slice_get log x ≡ Some e → e.kind ≡ Read → e.value ≡ r
     unfolding before comes_first
     read_agrees t r x xs e h a k = by (s.read_gives x e (h.insides x (inl refl)) a k) h.current
       where
@@ -185,10 +184,10 @@ module _ {R : Type 0} (first : R) (log : List (Entry R)) where
           where
             same_stamp : UpTo (s.stamp y) t ⊎ Among y (x ∷ xs) → s.stamp y ≡ t
             same_stamp (inl u) = neither_higher (s.stamp y) t u (subst (UpTo t) (sym q) (h.not_below x (inl refl)))
-            same_stamp (inr (inl l)) = absurd (not_both x e f a k (ap (element log) (sym l) ∙ b) w)
+            same_stamp (inr (inl l)) = absurd (not_both x e f a k (ap (slice_get log) (sym l) ∙ b) w)
             same_stamp (inr (inr l)) = absurd (read_not_first _ _ _ _ x y (h.rising.0 y l) q (ap of_write a ∙ ap is_writing k) (ap of_write b ∙ ap is_writing w))
 
-    after_read : (t : Stamp) (r : R) (x : ℕ) (xs : List ℕ) (e : Entry R) → LeftOver t r (x ∷ xs) → element log x ≡ Some e → e.kind ≡ Read → LeftOver t r xs
+    after_read : (t : Stamp) (r : R) (x : ℕ) (xs : List ℕ) (e : Entry R) → LeftOver t r (x ∷ xs) → slice_get log x ≡ Some e → e.kind ≡ Read → LeftOver t r xs
     after_read t r x xs e h a k =
         record {
           current = h.current;
@@ -198,12 +197,12 @@ module _ {R : Type 0} (first : R) (log : List (Entry R)) where
           writes_done = λ y f i b w. by y f b w (h.writes_done y f i b w);
         }
       where
-        by : (y : ℕ) (f : Entry R) → element log y ≡ Some f → f.kind ≡ Write → UpTo (s.stamp y) t ⊎ Among y (x ∷ xs) → UpTo (s.stamp y) t ⊎ Among y xs
+        by : (y : ℕ) (f : Entry R) → slice_get log y ≡ Some f → f.kind ≡ Write → UpTo (s.stamp y) t ⊎ Among y (x ∷ xs) → UpTo (s.stamp y) t ⊎ Among y xs
         by y f b w (inl u) = inl u
-        by y f b w (inr (inl l)) = absurd (not_both x e f a k (ap (element log) (sym l) ∙ b) w)
+        by y f b w (inr (inl l)) = absurd (not_both x e f a k (ap (slice_get log) (sym l) ∙ b) w)
         by y f b w (inr (inr l)) = inr l
 
-    after_write : (t : Stamp) (r : R) (x : ℕ) (xs : List ℕ) (e : Entry R) → LeftOver t r (x ∷ xs) → element log x ≡ Some e → e.kind ≡ Write → LeftOver (s.stamp x) e.value xs
+    after_write : (t : Stamp) (r : R) (x : ℕ) (xs : List ℕ) (e : Entry R) → LeftOver t r (x ∷ xs) → slice_get log x ≡ Some e → e.kind ≡ Write → LeftOver (s.stamp x) e.value xs
     unfolding before comes_first
     after_write t r x xs e h a k =
         record {

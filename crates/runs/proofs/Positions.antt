@@ -1,7 +1,8 @@
 -- One run under one name, seen by positions: the state before each step, which steps were accepted, and induction along it.
 -- Position i is the place before step i; past the last step nothing happens. Rests on the definitions of runs alone.
-use Rattle.std.proofs.Common.{◌≡◌, ℕ, zero, suc, ◌<◌, ◌≤◌, Bool, true, false, List, [], ◌∷◌, length, take, Some, None, Option, refl, ap, ◌∙◌, inl, inr, arith}
+use Rattle.std.proofs.Common.{◌≡◌, ℕ, zero, suc, ◌<◌, ◌≤◌, Bool, true, false, List, [], ◌∷◌, length, take, Some, None, Option, refl, ap, ◌∙◌, inl, inr, arith, slice_get}
 use Rattle.std.proofs.lemmas.Bool.{both_ways, cases_Bool, cases_lt}
+use Rattle.std.proofs.lemmas.Option.{slice_get_past}
 use Rattle.network.specs.declared.fault.StepFault.{StepFault}
 use Rattle.network.specs.declared.station.Station.{Station}
 use Rattle.network.specs.declared.step.Step.{Step}
@@ -10,7 +11,7 @@ use Rattle.network.specs.Knowing.{Set}
 use Rattle.network.specs.Refusals.{refusal}
 use Rattle.network.specs.Runs.{run, state_at, AdmittedStart}
 use Rattle.network.specs.States.{Copy, Setup, State, new_run}
-use Rattle.network.specs.Steps.{element, next, unless_refused, after}
+use Rattle.network.specs.Steps.{next, unless_refused, after}
 
 -- a run: what it is set up with, how many stations it starts with, its steps, and that its start is admitted
 pub record Run (R : Type 0) : Type 0 where
@@ -25,18 +26,12 @@ module _ {R : Type 0} where
   after_any u None s = s
   after_any u (Some x) s = after u x s
 
-  run_one_more : (u : Setup R) (xs : List (Step R)) (i : ℕ) (s : State R) → run u (take (suc i) xs) s ≡ after_any u (element xs i) (run u (take i xs) s)
-  unfolding run element
+  run_one_more : (u : Setup R) (xs : List (Step R)) (i : ℕ) (s : State R) → run u (take (suc i) xs) s ≡ after_any u (slice_get xs i) (run u (take i xs) s)
+  unfolding run
   run_one_more u [] zero s = refl
   run_one_more u [] (suc i) s = refl
   run_one_more u (x ∷ xs) zero s = refl
   run_one_more u (x ∷ xs) (suc i) s = run_one_more u xs i (after u x s)
-
-  no_step : (xs : List (Step R)) (i : ℕ) → length xs ≤ i → element xs i ≡ None
-  unfolding element
-  no_step [] i l = refl
-  no_step (x ∷ xs) zero l = absurd (omega arith)
-  no_step (x ∷ xs) (suc i) l = no_step xs i (omega arith)
 
   after_accepted : (u : Setup R) (x : Step R) (s : State R) → refusal u x s ≡ None → after u x s ≡ next u x s
   unfolding after
@@ -81,9 +76,9 @@ module _ {R : Type 0} (z : Run R) where
 
   -- step i is x, and is not refused
   abbrev pub Accepted : ℕ → Step R → Type 0
-  Accepted i x = (element z.steps i ≡ Some x) × (refusal z.setup x (state i) ≡ None)
+  Accepted i x = (slice_get z.steps i ≡ Some x) × (refusal z.setup x (state i) ≡ None)
 
-  state_next : (i : ℕ) → state (suc i) ≡ after_any z.setup (element z.steps i) (state i)
+  state_next : (i : ℕ) → state (suc i) ≡ after_any z.setup (slice_get z.steps i) (state i)
   unfolding state
   state_next i = run_one_more z.setup z.steps i (new_run z.setup z.founders)
 
@@ -93,7 +88,7 @@ module _ {R : Type 0} (z : Run R) where
 
   -- past the last step nothing happens
   pub after_end : (i : ℕ) → length z.steps ≤ i → state (suc i) ≡ state i
-  after_end i l = state_next i ∙ ap (λ o. after_any z.setup o (state i)) (no_step z.steps i l)
+  after_end i l = state_next i ∙ ap (λ o. after_any z.setup o (state i)) (slice_get_past z.steps i l)
 
   -- what became of step i: it was accepted, or nothing changed
   pub data OutcomeOf (i : ℕ) : Type 0 where
@@ -101,13 +96,13 @@ module _ {R : Type 0} (z : Run R) where
     stays : state (suc i) ≡ state i → OutcomeOf i
 
   pub outcome_of : (i : ℕ) → OutcomeOf i
-  outcome_of i = step (element z.steps i) refl
+  outcome_of i = step (slice_get z.steps i) refl
     where
-      judged : (x : Step R) → element z.steps i ≡ Some x → (f : Option StepFault) → refusal z.setup x (state i) ≡ f → OutcomeOf i
+      judged : (x : Step R) → slice_get z.steps i ≡ Some x → (f : Option StepFault) → refusal z.setup x (state i) ≡ f → OutcomeOf i
       judged x e None g = goes x (e, g)
       judged x e (Some f) g = stays (state_next i ∙ ap (λ o. after_any z.setup o (state i)) e ∙ after_refused z.setup x (state i) f g)
 
-      step : (o : Option (Step R)) → element z.steps i ≡ o → OutcomeOf i
+      step : (o : Option (Step R)) → slice_get z.steps i ≡ o → OutcomeOf i
       step None e = stays (state_next i ∙ ap (λ o. after_any z.setup o (state i)) e)
       step (Some x) e = judged x e (refusal z.setup x (state i)) refl
 

@@ -1,7 +1,7 @@
 -- How an operation goes on: while its rank stays, nothing of it changes but its replies; so phase one has the task with which
 -- it began, and phase two the record that its station held as it began. Rests on `Operations`, `Endings`, `Ranks` and
 -- `Changes`.
-use Rattle.std.proofs.Common.{◌≡◌, ℕ, suc, ◌+◌, ◌*◌, ◌<◌, ◌≤◌, true, Some, None, sym, refl, ap, ◌∙◌, inl, inr, le_refl, arith}
+use Rattle.std.proofs.Common.{◌≡◌, ℕ, suc, ◌+◌, ◌*◌, ◌<◌, ◌≤◌, true, Some, None, sym, refl, ap, ◌∙◌, inl, inr, le_refl, arith, slice_get}
 use Rattle.std.proofs.lemmas.Bool.{cases_lt, eq-eqb}
 use Rattle.network.specs.declared.entry.Entry.{Entry}
 use Rattle.network.specs.declared.operation.Kind.{Kind}
@@ -12,7 +12,6 @@ use Rattle.network.specs.Hearing.{kind_of}
 use Rattle.network.specs.Keeping.{tag_of}
 use Rattle.network.specs.Knowing.{member_count}
 use Rattle.network.specs.Polls.{new_poll}
-use Rattle.network.specs.Steps.{element}
 use Rattle.runs.proofs.Positions.{Run, station, onward}
 use Rattle.runs.proofs.Accepted.{some_is_not_none, enters, begins}
 use Rattle.runs.proofs.Changes.{Change, same, comes, fades, begins_one, hears_one, change, unused_blank}
@@ -172,7 +171,7 @@ module _ {R : Type 0} (z : Run R) where
       let own : o.owner ≡ q = sym s.station ∙ f.own in
       record { operation = o; begun_before = s.before; own = own; same_tag = sym (owner_tag z o i s.before (low o f.entry f.stands f.not_ended)) ∙ ap (λ p. tag_of (station z i p).operation) own }
     where
-      low : (o : Logged z (latest z i q)) (e : Entry R) → element (entries z i) (latest z i q) ≡ Some e → e.end ≡ None → rank (station z i o.owner) ≤ 3 * tag z o + 1
+      low : (o : Logged z (latest z i q)) (e : Entry R) → slice_get (entries z i) (latest z i q) ≡ Some e → e.end ≡ None → rank (station z i o.owner) ≤ 3 * tag z o + 1
       low o e h n =
           elim (cases_lt (3 * tag z o + 1) (rank (station z i o.owner))) [
             | inl l ↦ absurd (some_is_not_none _ (sym (entry_ended z o i e h l).end ∙ n))

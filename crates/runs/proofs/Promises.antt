@@ -1,6 +1,6 @@
 -- Every run keeps the promises: one order of reads and writes, joins in time, ends in time, and a log that tells the operations.
 -- Rests on `Assembly`, `Joins`, `Phases`, `Operations` and `LogTells`.
-use Rattle.std.proofs.Common.{◌≡◌, ℕ, ◌+◌, ◌*◌, ◌≤◌, true, length, is_some, Some, None, sym, refl, ap, ◌∙◌, subst, arith}
+use Rattle.std.proofs.Common.{◌≡◌, ℕ, ◌+◌, ◌*◌, ◌≤◌, true, length, is_some, Some, None, sym, refl, ap, ◌∙◌, subst, arith, slice_get}
 use Rattle.std.proofs.lemmas.Bool.{both_ways, eqb-true}
 use Rattle.network.specs.declared.entry.Entry.{Entry}
 use Rattle.network.specs.declared.operation.Task.{Task}
@@ -11,7 +11,6 @@ use Rattle.network.specs.Keeping.{active}
 use Rattle.network.specs.Promises.{begins_at, JoinsInTime, EndsInTime, Promised, PromisesKept, LogStands, LogsStand}
 use Rattle.network.specs.Refusals.{refusal}
 use Rattle.network.specs.Runs.{state_at}
-use Rattle.network.specs.Steps.{element}
 use Rattle.runs.proofs.Positions.{Run, state_is, clock, active_at, D, Accepted}
 use Rattle.runs.proofs.Accepted.{step_of}
 use Rattle.runs.proofs.Assembly.{one_order}
@@ -23,7 +22,7 @@ use Rattle.runs.proofs.Phases.{operation_over}
 
 module _ {R : Type 0} (z : Run R) where
   -- a step that is not refused where the rules put it is accepted
-  accepted : (i : ℕ) (x : Step R) → element z.steps i ≡ Some x → refusal z.setup x (state_at z.setup z.founders z.steps i) ≡ None → Accepted z i x
+  accepted : (i : ℕ) (x : Step R) → slice_get z.steps i ≡ Some x → refusal z.setup x (state_at z.setup z.founders z.steps i) ≡ None → Accepted z i x
   accepted i x e r = (e, ap (refusal z.setup x) (state_is z i) ∙ r)
 
   -- the clock's distance between two positions
@@ -51,15 +50,15 @@ module _ {R : Type 0} (z : Run R) where
   ends_in_time i j p x e b r l late v = by (task_of x p b)
     where
       by : (t : Task R) × (x ≡ step_of z p t)
-          → (f : Entry R) × (element (state_at z.setup z.founders z.steps j).log.entries (length (state_at z.setup z.founders z.steps i).log.entries) ≡ Some f) × (is_some f.end ≡ true)
+          → (f : Entry R) × (slice_get (state_at z.setup z.founders z.steps j).log.entries (length (state_at z.setup z.founders z.steps i).log.entries) ≡ Some f) × (is_some f.end ≡ true)
       by (t, is) =
           let a : Accepted z i (step_of z p t) = subst (Accepted z i) is (accepted i x e r) in
           let o : Logged z (length (entries z i)) = record { owner = p; begun = i; task = t; accepted = a; place = refl } in
           let (f, stands, shows) = logged_there z o j l in
           let over = operation_over z i p j t a (still_active j p v) (far i j 4 late) in (
             f,
-            subst (λ s. element s.log.entries (length (state_at z.setup z.founders z.steps i).log.entries) ≡ Some f) (state_is z j)
-                (subst (λ s. element (entries z j) (length s.log.entries) ≡ Some f) (state_is z i) stands),
+            subst (λ s. slice_get s.log.entries (length (state_at z.setup z.founders z.steps i).log.entries) ≡ Some f) (state_is z j)
+                (subst (λ s. slice_get (entries z j) (length s.log.entries) ≡ Some f) (state_is z i) stands),
             ap is_some (entry_ended z o j f stands over).end,
           )
 

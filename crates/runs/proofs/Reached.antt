@@ -1,6 +1,6 @@
 -- Every number of a state that a run has come to is small, so that whatever code raises next still fits.
 -- Rests on `SmallNumbers`, `StampCounts`, `EntriesSmall`, `BookOverRuns` and `Copies`.
-use Rattle.std.proofs.Common.{◌≡◌, ℕ, ◌<◌, ◌≤◌, true, ◌&&◌, List, length, Some, None, Option, sym, refl, ap, ◌∙◌, subst, le_trans, le_refl, arith}
+use Rattle.std.proofs.Common.{◌≡◌, ℕ, ◌<◌, ◌≤◌, true, ◌&&◌, List, length, Some, None, Option, sym, refl, ap, ◌∙◌, subst, le_trans, le_refl, arith, slice_get}
 use Rattle.std.proofs.lemmas.List.{take_all}
 use Rattle.std.proofs.lemmas.Bool.{and_parts, and_from, lt-ltb}
 use Rattle.stations.proofs.Counting.{how_many_bound}
@@ -16,7 +16,6 @@ use Rattle.network.specs.Knowing.{Set, most_stations}
 use Rattle.network.specs.Limits.{may_rise, replies_may_rise, can_rise, can_begin}
 use Rattle.network.specs.Runs.{run, AdmittedStart}
 use Rattle.network.specs.States.{Copy, Setup, State, new_run, present_set, crashed_set, present_total, crashed_total}
-use Rattle.network.specs.Steps.{element}
 use Rattle.runs.specs.Small.{SmallOperation, SmallStation, SmallContent, SmallEntry, Small, most_messages}
 use Rattle.runs.proofs.Positions.{Run, state, state_is, station}
 use Rattle.runs.proofs.BookOverRuns.{tick_moves}
@@ -122,7 +121,7 @@ pub record Fits {R : Type 0} (u : Setup R) (s : State R) : Type 0 where
   pub rise : (n q : ℕ) (c : Copy R) → s.waits n q ≡ Some c → can_rise (s.stations q) c.content ≡ true
   pub begin : (q : ℕ) → can_begin (s.stations q) ≡ true
   pub note : may_rise s.book.moves ≡ true
-  pub count : (p : ℕ) → elim (element s.log.entries (s.log.latest p)) [ None ↦ true | Some e ↦ may_rise e.replies_one && may_rise e.replies_two ] ≡ true
+  pub count : (p : ℕ) → elim (slice_get s.log.entries (s.log.latest p)) [ None ↦ true | Some e ↦ may_rise e.replies_one && may_rise e.replies_two ] ≡ true
   -- stations are counted up to the end of the table
   pub present : present_total s ≤ most_stations
   pub crashed : crashed_total s ≤ most_stations
@@ -150,7 +149,7 @@ module _ {R : Type 0} (u : Setup R) (k : ℕ) (xs : List (Step R)) (a : Admitted
         rise = λ n q c w. heard_rises u.places few (s.stations q) c.content (h.stations q) (h.waiting n q c w).2;
         begin = λ q. tag_rises u.places few (s.stations q).operation (h.stations q).operation;
         note = low_rises s.book.moves (omega (arith, h.moves));
-        count = λ p. counts_rise (element s.log.entries (s.log.latest p)) (h.entries (s.log.latest p));
+        count = λ p. counts_rise (slice_get s.log.entries (s.log.latest p)) (h.entries (s.log.latest p));
         present = how_many_bound (present_set s) most_stations;
         crashed = how_many_bound (crashed_set s) most_stations;
         used = λ q v. omega (arith, h.used q v, table_high the_run);

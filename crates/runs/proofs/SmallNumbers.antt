@@ -2,6 +2,7 @@
 -- so echoes and replies are at most the numbers given so far. Rests on `Clocks`, `LogOverRuns`, `Changes` and `Provenance`.
 use Rattle.std.proofs.Common.{◌≡◌, ℕ, zero, suc, ◌+◌, ◌-◌, ◌<◌, ◌≤◌, Bool, true, false, cond, not, ltb, length, is_some, Some, None, Option, sym, refl, ap, ◌∙◌, subst, le_trans, le_refl, arith}
 use Rattle.std.proofs.lemmas.Bool.{both_ways}
+use Rattle.std.proofs.lemmas.List.{length_push}
 use Rattle.settings.specs.declared.choice.Choice.{Choice}
 use Rattle.stations.specs.Members.{how_many}
 use Rattle.stations.proofs.Counting.{how_many_bound, how_many_mono}
@@ -23,7 +24,7 @@ use Rattle.runs.proofs.Clocks.{ClockStep, rises, rests, clock_step, clock_start,
 use Rattle.runs.proofs.Changes.{Change, same, comes, fades, begins_one, hears_one, change, stationwise}
 use Rattle.runs.proofs.Copies.{numbered, never_again}
 use Rattle.runs.proofs.Counting.{how_many_rise, how_many_further}
-use Rattle.runs.proofs.Entries.{length_one_more, length_changed}
+use Rattle.runs.proofs.Entries.{length_changed}
 use Rattle.runs.proofs.Growing.{hear_tag}
 use Rattle.runs.proofs.LogOverRuns as log
 use Rattle.runs.proofs.Provenance.{gone_after}
@@ -74,7 +75,7 @@ module _ {R : Type 0} (z : Run R) where
     where
       by : log.LogStep z i → (begun_so_far i ≤ begun_so_far (suc i)) × (begun_so_far i ≤ z.setup.places → begun_so_far (suc i) ≤ z.setup.places)
       by (log.rests e f) = let g = ap (λ (l : Log R). length l.entries) e in (omega arith, λ h. omega arith)
-      by (log.opens p t a e f) = let g = ap (λ (l : Log R). length l.entries) e ∙ length_one_more (log.entries z i) _ in (omega arith, λ h. omega (arith, (begins z i p t a).log_open))
+      by (log.opens p t a e f) = let g = ap (λ (l : Log R). length l.entries) e ∙ length_push (log.entries z i) _ in (omega arith, λ h. omega (arith, (begins z i p t a).log_open))
       by (log.heeds p n c a e y f) = let g = ap (λ (l : Log R). length l.entries) e ∙ length_changed (log.latest z i p) (log.hearing z i p c) (log.entries z i) in (omega arith, λ h. omega arith)
 
   pub log_on : (i j : ℕ) → i ≤ j → begun_so_far i ≤ begun_so_far j
@@ -97,7 +98,7 @@ module _ {R : Type 0} (z : Run R) where
       by (same e) h l = omega (arith, ap (λ s. tag_of s.operation) e)
       by (comes a e) h l = omega (arith, ap (λ s. tag_of s.operation) e)
       by (fades m c f e) h l = omega (arith, ap (λ s. tag_of s.operation) e)
-      by (begins_one t a e) h l = omega (arith, ap (λ s. tag_of s.operation) e, ap (λ s. length s.log.entries) (begins z i q t a).leads ∙ length_one_more (log.entries z i) _)
+      by (begins_one t a e) h l = omega (arith, ap (λ s. tag_of s.operation) e, ap (λ s. length s.log.entries) (begins z i q t a).leads ∙ length_push (log.entries z i) _)
       by (hears_one n c a w e) h l = omega (arith, ap (λ s. tag_of s.operation) e, hear_tag z.setup.choice q c.content (station z i q))
 
   -- bounds and bases are counts of stations

@@ -1,22 +1,19 @@
 -- Sorting of numbers under a strict order that is a test: insertion, that a sorted list has what was inserted and nothing else,
 -- that none stands in it twice, and that of two in it the one before the other stands ahead. Rests on lists alone.
-use Rattle.std.proofs.Common.{◌≡◌, ℕ, zero, suc, ◌<◌, Bool, true, false, cond, ◌⊎◌, List, [], ◌∷◌, Some, sym, refl, ap, ◌∙◌, subst, inl, inr, arith}
+use Rattle.std.proofs.Common.{◌≡◌, ℕ, zero, suc, ◌<◌, Bool, true, false, cond, ◌⊎◌, List, [], ◌∷◌, Some, sym, refl, ap, ◌∙◌, subst, inl, inr, arith, slice_get}
 use Rattle.std.proofs.lemmas.Bool.{both_ways, cases_lt}
 use Rattle.network.specs.Promises.{In, Ahead, Distinct}
-use Rattle.network.specs.Steps.{element}
 use Rattle.runs.proofs.Accepted.{some_is_not_none}
 use Rattle.runs.proofs.Mails.{Among}
 
 module _ {A : Type 0} where
   -- who is among the elements stands at some place
   pub among_in : (x : A) (xs : List A) → Among x xs → In x xs
-  unfolding element
   among_in x [] a = absurd a
   among_in x (y ∷ ys) (inl e) = (0, ap Some (sym e))
   among_in x (y ∷ ys) (inr a) = let p = among_in x ys a in (suc p.0, p.1)
 
-  pub at_among : (x : A) (xs : List A) (i : ℕ) → element xs i ≡ Some x → Among x xs
-  unfolding element
+  pub at_among : (x : A) (xs : List A) (i : ℕ) → slice_get xs i ≡ Some x → Among x xs
   at_among x [] i e = absurd (some_is_not_none x (sym e))
   at_among x (y ∷ ys) zero e = inl cc
   at_among x (y ∷ ys) (suc i) e = inr (at_among x ys i e)
@@ -116,7 +113,6 @@ module _ (before : ℕ → ℕ → Bool) where
 
     -- none stands in it twice
     pub rising_distinct : (xs : List ℕ) → Rising xs → Distinct xs
-    unfolding element
     rising_distinct [] h i j x e f = absurd (some_is_not_none x (sym e))
     rising_distinct (y ∷ ys) h zero zero x e f = refl
     rising_distinct (y ∷ ys) h zero (suc j) x e f = let k : y ≡ x = cc in absurd (not_itself y (subst (λ v. before y v ≡ true) (sym k) (h.0 x (at_among x ys j f))))
@@ -125,7 +121,6 @@ module _ (before : ℕ → ℕ → Bool) where
 
     -- who is before another stands ahead of it
     pub rising_ahead : (x y : ℕ) (xs : List ℕ) → Rising xs → Among x xs → Among y xs → before x y ≡ true → Ahead x y xs
-    unfolding element
     rising_ahead x y [] h a b l = absurd a
     rising_ahead x y (w ∷ ws) h (inl e) (inl f) l = absurd (not_itself x (subst (λ v. before x v ≡ true) (f ∙ sym e) l))
     rising_ahead x y (w ∷ ws) h (inl e) (inr b) l = let p = among_in y ws b in (0, suc p.0, omega arith, ap Some (sym e), p.1)

@@ -2,6 +2,7 @@
 -- together to at most the length of the log. Rests on `StampsSaid`, `Changes`, `Copies` and `SmallNumbers`.
 use Rattle.std.proofs.Common.{◌≡◌, ℕ, zero, suc, ◌+◌, ◌-◌, ◌<◌, ◌≤◌, Bool, true, false, cond, ltb, length, Some, sym, refl, ap, ◌∙◌, subst, inl, inr, ⊎_elim, le_trans, le_refl, arith}
 use Rattle.std.proofs.lemmas.Bool.{both_ways, cases_eq}
+use Rattle.std.proofs.lemmas.List.{length_push}
 use Rattle.stations.specs.Members.{put, how_many}
 use Rattle.stations.proofs.Counting.{put_here, put_other, how_many_none}
 use Rattle.network.specs.declared.letter.Letter.{Letter}
@@ -25,7 +26,7 @@ use Rattle.runs.proofs.Changes.{unused_blank}
 use Rattle.runs.proofs.Copies.{Posted, source}
 use Rattle.runs.proofs.Bounds.{one_step}
 use Rattle.runs.proofs.Counting.{one_if, how_many_at}
-use Rattle.runs.proofs.Entries.{length_one_more, length_changed}
+use Rattle.runs.proofs.Entries.{length_changed}
 use Rattle.runs.proofs.Mails.{Among}
 use Rattle.runs.proofs.LogOverRuns.{entries, latest}
 use Rattle.runs.proofs.SmallNumbers.{begun_so_far}
@@ -107,7 +108,7 @@ module _ {R : Type 0} (z : Run R) where
   low_begins i p t x a d b low =
       let all : (q : ℕ) → station z (suc i) q ≡ put (state z i).stations p (begin t (station z i p)) q = λ q. ap (λ s. s.stations q) b.leads in
       low_rests i x a d
-      (omega (arith, ones_put i p _ b.acts.in_table all, ap one_if (idle_not_one _ b.idle), ap (λ s. length s.log.entries) b.leads ∙ length_one_more (entries z i) _))
+      (omega (arith, ones_put i p _ b.acts.in_table all, ap one_if (idle_not_one _ b.idle), ap (λ s. length s.log.entries) b.leads ∙ length_push (entries z i) _))
       (count_put i p _ all (le_refl _)) low
     where
       idle_not_one : (o : Operation R) → under_way o ≡ false → in_phase_one o ≡ false

@@ -1,6 +1,6 @@
 -- The run's whole log, stamped: an operation is in the order if it has ended, or is a write that has begun phase two; its stamp
 -- is that of the record that it spreads. Rests on `Turns`, `Records` and `Operations`.
-use Rattle.std.proofs.Common.{◌≡◌, ℕ, suc, ◌+◌, ◌*◌, ◌<◌, ◌≤◌, Bool, true, false, ◌&&◌, ◌||◌, ltb, ◌⊎◌, List, length, Some, None, Option, sym, refl, ap, ◌∙◌, subst, ap₂, inl, inr, arith}
+use Rattle.std.proofs.Common.{◌≡◌, ℕ, suc, ◌+◌, ◌*◌, ◌<◌, ◌≤◌, Bool, true, false, ◌&&◌, ◌||◌, ltb, ◌⊎◌, List, length, Some, None, Option, sym, refl, ap, ◌∙◌, subst, ap₂, inl, inr, arith, slice_get}
 use Rattle.std.proofs.lemmas.Bool.{cases_lt, both_ways, or_cases, or_left, or_right, and_parts, and_from, ltb-true, lt-ltb}
 use Rattle.network.specs.declared.entry.Entry.{Entry}
 use Rattle.network.specs.declared.operation.Kind.TheVariants.{Read, Write}
@@ -9,7 +9,6 @@ use Rattle.network.specs.declared.stamp.Stamp.{Stamp}
 use Rattle.network.specs.Hearing.{kind_of}
 use Rattle.network.specs.Keeping.{tag_of}
 use Rattle.network.specs.Stamps.{higher, first_stamp}
-use Rattle.network.specs.Steps.{element}
 use Rattle.runs.proofs.Positions.{Run, station}
 use Rattle.runs.proofs.Accepted.{some_is_not_none}
 use Rattle.runs.proofs.LogOverRuns.{entries}
@@ -34,13 +33,13 @@ module _ {R : Type 0} (z : Run R) where
 
   -- what stands at a place of the log
   data Place (x : ℕ) : Type 0 where
-    empty : element whole x ≡ None → Place x
-    holds : (e : Entry R) → element whole x ≡ Some e → (o : Logged z x) → Shows z o last e → Place x
+    empty : slice_get whole x ≡ None → Place x
+    holds : (e : Entry R) → slice_get whole x ≡ Some e → (o : Logged z x) → Shows z o last e → Place x
 
   place : (x : ℕ) → Place x
-  place x = by (element whole x) refl
+  place x = by (slice_get whole x) refl
     where
-      by : (m : Option (Entry R)) → element whole x ≡ m → Place x
+      by : (m : Option (Entry R)) → slice_get whole x ≡ m → Place x
       by None h = empty h
       by (Some e) h = let (o, s) = logged z last x e h in holds e h o s
 
@@ -67,7 +66,7 @@ module _ {R : Type 0} (z : Run R) where
   -- an operation in the order
   pub record Done (x : ℕ) : Type 0 where
     pub entry : Entry R
-    pub stands : element whole x ≡ Some entry
+    pub stands : slice_get whole x ≡ Some entry
     pub of : Logged z x
     pub shows : Shows z of last entry
     pub turn : Turned z of last
@@ -93,7 +92,7 @@ module _ {R : Type 0} (z : Run R) where
     same_far : (o' : Logged z x) → far o' ≡ far o
     same_far o' = ap (λ q. rank (station z last q)) (logged_once z x o' o).1
 
-    is_inside : (e : Entry R) → element whole x ≡ Some e → (3 * tag z o + 1 < far o) ⊎ ((e.kind ≡ Write) × (3 * tag z o < far o)) → inside x ≡ true
+    is_inside : (e : Entry R) → slice_get whole x ≡ Some e → (3 * tag z o + 1 < far o) ⊎ ((e.kind ≡ Write) × (3 * tag z o < far o)) → inside x ≡ true
     unfolding inside
     is_inside e h c = by (place x) c
       where
@@ -120,10 +119,10 @@ module _ {R : Type 0} (z : Run R) where
         by (empty g) = absurd (let there = logged_there z o last (omega (arith, w.after, w.before)) in some_is_not_none there.0 (sym there.1 ∙ g))
         by (holds e g o' s) = by_rank o' (cases_lt (3 * tag z o') (far o'))
 
-  same_entry : {x : ℕ} (d : Done x) (e : Entry R) → element whole x ≡ Some e → d.entry ≡ e
+  same_entry : {x : ℕ} (d : Done x) (e : Entry R) → slice_get whole x ≡ Some e → d.entry ≡ e
   same_entry d e h = let f : Some d.entry ≡ Some e = sym d.stands ∙ h in cc
 
-  done_writes : {x : ℕ} (d : Done x) (e : Entry R) → element whole x ≡ Some e → e.kind ≡ Write → kind_of d.of.task ≡ Write
+  done_writes : {x : ℕ} (d : Done x) (e : Entry R) → slice_get whole x ≡ Some e → e.kind ≡ Write → kind_of d.of.task ≡ Write
   done_writes d e h k = sym d.shows.kind ∙ ap (λ (f : Entry R). f.kind) (same_entry d e h) ∙ k
 
   -- the record that a write in the order makes, and that no other has its stamp
@@ -172,7 +171,7 @@ module _ {R : Type 0} (z : Run R) where
         read_gives = λ x e i h k. let d = done x i in gives d e.value (ended_value z d.of d.turn e h (read_over d e h k));
       }
     where
-      read_over : {x : ℕ} (d : Done x) (e : Entry R) → element whole x ≡ Some e → e.kind ≡ Read → 3 * tag z d.of + 1 < far d.of
+      read_over : {x : ℕ} (d : Done x) (e : Entry R) → slice_get whole x ≡ Some e → e.kind ≡ Read → 3 * tag z d.of + 1 < far d.of
       read_over d e h k = elim d.over [ inl l ↦ l | inr w ↦ absurd (both_ways _ (ap is_writing (ap (λ (f : Entry R). f.kind) (same_entry d e h) ∙ k)) (ap is_writing w)) ]
 
   -- what is in the order, and under which stamp
@@ -180,7 +179,7 @@ module _ {R : Type 0} (z : Run R) where
   unfolding stamped
   stamped_done x i = done x i
 
-  pub stamped_ended : {x : ℕ} (o : Logged z x) (e : Entry R) → element whole x ≡ Some e → 3 * tag z o + 1 < far o → stamped.inside x ≡ true
+  pub stamped_ended : {x : ℕ} (o : Logged z x) (e : Entry R) → slice_get whole x ≡ Some e → 3 * tag z o + 1 < far o → stamped.inside x ≡ true
   unfolding stamped
   stamped_ended o e h l = is_inside o e h (inl l)
 

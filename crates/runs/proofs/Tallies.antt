@@ -1,6 +1,6 @@
 -- Whose replies a station has counted for a request, by recursion on the position; and while it waits, that they are as many
 -- as its tally. Rests on `Asked` (a reply is heard once) and `Changes`.
-use Rattle.std.proofs.Common.{◌≡◌, ℕ, zero, suc, ◌+◌, ◌<◌, ◌≤◌, Bool, true, false, cond, not, ◌&&◌, ◌||◌, eqb, ltb, ◌⊎◌, is_some, Some, None, Option, sym, refl, ap, ◌∙◌, subst, inl, inr, arith}
+use Rattle.std.proofs.Common.{◌≡◌, ℕ, zero, suc, ◌+◌, ◌<◌, ◌≤◌, Bool, true, false, cond, not, ◌&&◌, ◌||◌, eqb, ltb, ◌⊎◌, is_some, Some, None, Option, sym, refl, ap, ◌∙◌, subst, inl, inr, arith, slice_get}
 use Rattle.std.proofs.lemmas.Bool.{both_ways, cases_Bool, and_parts, and_from, or_cases, or_left, or_right, eqb-true, eq-eqb, not-true, not_from_false}
 use Rattle.std.proofs.lemmas.Bool.Decides.{nat_tests}
 use Rattle.stations.specs.Members.{how_many}
@@ -16,7 +16,6 @@ use Rattle.network.specs.Keeping.{under_way, unused_station, newcomer, founder}
 use Rattle.network.specs.Knowing.{Set, most_stations}
 use Rattle.network.specs.Refusals.{refusal}
 use Rattle.network.specs.States.{Copy, Setup, State}
-use Rattle.network.specs.Steps.{element}
 use Rattle.runs.proofs.Positions.{Run, state, station, waiting, Accepted, onward}
 use Rattle.runs.proofs.Accepted.{enters, begins}
 use Rattle.runs.proofs.Asked.{Reply, reply_from, reply_once}
@@ -83,7 +82,7 @@ module _ {R : Type 0} where
 module _ {R : Type 0} (z : Run R) where
   -- at step i, p counts the reply of q
   abbrev counts_at : ℕ → Request → ℕ → ℕ → Bool
-  counts_at p r i q = counts_any p r q z.setup (state z i) (element z.steps i)
+  counts_at p r i q = counts_any p r q z.setup (state z i) (slice_get z.steps i)
 
   -- before position i, p has counted the reply of q to its request r
   unfoldable pub counted : ℕ → Request → ℕ → ℕ → Bool
@@ -99,7 +98,7 @@ module _ {R : Type 0} (z : Run R) where
   copy_reply i n p r c a w k = let (h, e, f) = hears_copy z i n p c c.content a w refl in subst (λ (d : Copy R). Reply z i p d.from r) f (reply_from z i p r c.content h k)
 
   counts_reply : (p : ℕ) (r : Request) (i q : ℕ) → counts_at p r i q ≡ true → Reply z i p q r × (awaits (station z i p) r ≡ true)
-  counts_reply p r i q h = by_step (element z.steps i) refl h
+  counts_reply p r i q h = by_step (slice_get z.steps i) refl h
     where
       by_copy : (n : ℕ) → Accepted z i (step.Deliver n p) → (o : Option (Copy R)) → waiting z i n p ≡ o → reply_by p r q o ≡ true → Reply z i p q r
       by_copy n a None w k = absurd (both_ways _ refl k)
@@ -117,7 +116,7 @@ module _ {R : Type 0} (z : Run R) where
           let (w, g) = and_parts _ _ f in
           (by_copy n (subst (λ m. Accepted z i (step.Deliver n m)) (eqb-true m p e) a) (waiting z i n p) refl g, w)
 
-      by_step : (o : Option (Step R)) → element z.steps i ≡ o → counts_any p r q z.setup (state z i) o ≡ true → Reply z i p q r × (awaits (station z i p) r ≡ true)
+      by_step : (o : Option (Step R)) → slice_get z.steps i ≡ o → counts_any p r q z.setup (state z i) o ≡ true → Reply z i p q r × (awaits (station z i p) r ≡ true)
       by_step None e k = absurd (both_ways _ refl k)
       by_step (Some x) e k = let (f, g) = and_parts _ _ k in by_kind x (e, no_fault _ f) g
 

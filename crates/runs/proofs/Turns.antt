@@ -1,6 +1,6 @@
 -- Where an operation of the log begins phase two: at one step, with the record that it then spreads; and that each record made
 -- by a write is that of one operation of the log. Rests on `Operations`, `Records` and `Ranks`.
-use Rattle.std.proofs.Common.{◌≡◌, ℕ, suc, ◌+◌, ◌*◌, ◌<◌, ◌≤◌, true, length, Some, sym, refl, ap, ◌∙◌, ap₂, inl, inr, arith}
+use Rattle.std.proofs.Common.{◌≡◌, ℕ, suc, ◌+◌, ◌*◌, ◌<◌, ◌≤◌, true, length, Some, sym, refl, ap, ◌∙◌, ap₂, inl, inr, arith, slice_get}
 use Rattle.std.proofs.lemmas.Bool.{both_ways, cases_lt, cases_order, eqb-true}
 use Rattle.stations.proofs.Counting.{put_here}
 use Rattle.network.specs.declared.entry.Entry.{Entry}
@@ -18,7 +18,6 @@ use Rattle.network.specs.Keeping.{under_way, tag_of}
 use Rattle.network.specs.Knowing.{Set}
 use Rattle.network.specs.Logs.{opening_value}
 use Rattle.network.specs.Polls.{new_poll}
-use Rattle.network.specs.Steps.{element}
 use Rattle.runs.proofs.Positions.{Run, station}
 use Rattle.runs.proofs.Accepted.{begins}
 use Rattle.runs.proofs.Changes.{grown}
@@ -69,7 +68,7 @@ module _ {R : Type 0} (z : Run R) where
     turned_task w k = let m = turned_makes w k in let e : PhaseOne o.task (polled (tag z o) w.base w.replies) ≡ PhaseOne (task.Write (spreads w).value) m.poll = sym w.was_one ∙ m.was_one in cc
 
     -- once it has ended, its entry shows the value that it spread
-    pub ended_value : {i : ℕ} (w : Turned z o i) (e : Entry R) → element (entries z i) x ≡ Some e → 3 * tag z o + 1 < rank (station z i o.owner) → e.value ≡ (spreads w).value
+    pub ended_value : {i : ℕ} (w : Turned z o i) (e : Entry R) → slice_get (entries z i) x ≡ Some e → 3 * tag z o + 1 < rank (station z i o.owner) → e.value ≡ (spreads w).value
     ended_value {i} w e h l = by (entry_ended z o i e h l)
       where
         by : Ended z o i e → e.value ≡ (spreads w).value
@@ -78,13 +77,13 @@ module _ {R : Type 0} (z : Run R) where
             d.value k n v f ∙ w.kept d.at k n v t f
 
     -- the entry of a write shows it all along
-    pub written_value : {i : ℕ} (w : Turned z o i) (e : Entry R) → element (entries z i) x ≡ Some e → kind_of o.task ≡ kind.Write → e.value ≡ (spreads w).value
+    pub written_value : {i : ℕ} (w : Turned z o i) (e : Entry R) → slice_get (entries z i) x ≡ Some e → kind_of o.task ≡ kind.Write → e.value ≡ (spreads w).value
     written_value {i} w e h k =
         elim (cases_lt (3 * tag z o + 1) (rank (station z i o.owner)))
         [ inl l ↦ ended_value w e h l | inr l ↦ (entry_open z o i e h l).1 ∙ ap (opening_value z.setup.first) (turned_task w k) ]
 
     -- and that is the record that it was to write
-    pub write_shows : (i : ℕ) (e : Entry R) (r : R) → element (entries z i) x ≡ Some e → o.task ≡ task.Write r → e.value ≡ r
+    pub write_shows : (i : ℕ) (e : Entry R) (r : R) → slice_get (entries z i) x ≡ Some e → o.task ≡ task.Write r → e.value ≡ r
     write_shows i e r h t =
         elim (cases_lt (3 * tag z o) (rank (station z i o.owner))) [
           | inl l ↦

@@ -1,5 +1,5 @@
 -- Numbers stay small: at every place of every run, each number is far inside the type that code keeps it in.
-use Rattle.std.specs.Prelude.{◌≡◌, ℕ, ◌+◌, ◌*◌, ◌<◌, ◌≤◌, true, List, length, Some}
+use Rattle.std.specs.Prelude.{◌≡◌, ℕ, ◌+◌, ◌*◌, ◌<◌, ◌≤◌, true, List, length, Some, slice_get}
 use Rattle.network.specs.declared.content.Content.{Content}
 use Rattle.network.specs.declared.content.Content.TheVariants.{Enter, EnterEcho, Joined, JoinedEcho, Leave, LeaveEcho, Query, Response, Update, Ack, UpdateEcho}
 use Rattle.network.specs.declared.entry.Entry.{Entry}
@@ -14,7 +14,6 @@ use Rattle.network.specs.Knowing.{Set, most_stations}
 use Rattle.network.specs.Refusals.{last_tick, last_number}
 use Rattle.network.specs.Runs.{state_at, AdmittedStart}
 use Rattle.network.specs.States.{Copy, Setup, State}
-use Rattle.network.specs.Steps.{element}
 
 -- at most one for each message number
 abbrev pub most_messages : ℕ
@@ -74,7 +73,7 @@ module _ {R : Type 0} where
     -- what waits has a number below the next, and waits for one who is active
     pub waiting : (n q : ℕ) (c : Copy R) → s.waits n q ≡ Some c → (n < s.next) × (active (s.stations q) ≡ true) × SmallContent u.places c.content
     pub log : length s.log.entries ≤ u.places
-    pub entries : (x : ℕ) (e : Entry R) → element s.log.entries x ≡ Some e → SmallEntry e
+    pub entries : (x : ℕ) (e : Entry R) → slice_get s.log.entries x ≡ Some e → SmallEntry e
 
 -- at every place of every run
 abbrev pub NumbersStaySmall : Type 0 → Type 0
