@@ -1,7 +1,8 @@
 -- What an accepted step passed and what the state then is, one lemma for each kind of step.
 -- Later files learn of acceptance from these lemmas only. Rests on `Positions` and on the rules of refusal.
-use Rattle.std.proofs.Common.{◌≡◌, ℕ, suc, ◌+◌, ◌<◌, ◌≤◌, Bool, true, false, not, ltb, List, [], ◌∷◌, length, is_some, Some, None, Option, refl, ap, ◌∙◌, subst, add-zero, arith}
+use Rattle.std.proofs.Common.{◌≡◌, ℕ, suc, ◌+◌, ◌<◌, ◌≤◌, Bool, true, false, not, ltb, List, [], ◌∷◌, length, is_some, Some, None, Option, sym, refl, ap, ◌∙◌, subst, add-zero, arith}
 use Rattle.std.proofs.lemmas.Bool.{ltb-true, leb-true, not-true, both_ways}
+use Rattle.std.proofs.lemmas.Option.{none-some}
 use Rattle.carrier.specs.Counts.{earliest}
 use Rattle.carrier.specs.Waits.{Waits}
 use Rattle.network.specs.declared.content.Content.TheVariants.{Enter, Leave, Query}
@@ -21,7 +22,7 @@ use Rattle.network.specs.Steps.{next}
 use Rattle.runs.proofs.Positions.{Run, state, station, clock, waiting, D, Accepted, after_step}
 
 pub some_is_not_none : {A : Type 0} (a : A) → Some a ≡ None → ⊥
-some_is_not_none a e = let zero_is_one : ◌≡◌ {A = ℕ} 0 1 = cc in omega arith
+some_is_not_none a e = none-some a (sym e)
 
 -- where no test fails, the first one held and the others did
 passed : (t : Test) (ts : List Test) → first_of (t ∷ ts) ≡ None → (t ≡ None) × (first_of ts ≡ None)

@@ -1,6 +1,6 @@
 -- A request is made at one step, each station hears it once and replies once, and its reply is heard once.
 -- Rests on `Hearings` and `RequestsHeard`.
-use Rattle.std.proofs.Common.{◌≡◌, ℕ, suc, ◌+◌, ◌<◌, ◌≤◌, true, false, [], ◌∷◌, Some, None, Option, sym, refl, ap, ◌∙◌, subst, inl, inr, ⊎_elim, arith}
+use Rattle.std.proofs.Common.{◌≡◌, ℕ, suc, ◌+◌, ◌<◌, ◌≤◌, true, false, Some, None, Option, sym, refl, ap, ◌∙◌, subst, inl, inr, ⊎_elim, arith}
 use Rattle.std.proofs.lemmas.Bool.{both_ways, and_from, or_left, or_right, not_from_false, leb-true, le-leb, cases_order}
 use Rattle.stations.proofs.Counting.{put_here}
 use Rattle.network.specs.declared.content.Content.{Content}
@@ -21,17 +21,12 @@ use Rattle.runs.proofs.Accepted.{step_of, enters, begins, hears}
 use Rattle.runs.proofs.Changes.{grown, active_used}
 use Rattle.runs.proofs.Copies.{Posted, source, numbered, awaited, young}
 use Rattle.runs.proofs.FirstLetters.{only_first, takes_next}
-use Rattle.runs.proofs.Hearings.{HearsAt, hears_copy, hears_active, SaysAll, Cause, of_enter, of_leave, of_begin, of_hearing, Caused, caused}
+use Rattle.runs.proofs.Hearings.{HearsAt, alone, hears_copy, hears_active, SaysAll, Cause, of_enter, of_leave, of_begin, of_hearing, Caused, caused}
 use Rattle.runs.proofs.Mails.{Among}
 use Rattle.runs.proofs.Provenance.{origin, delivered_once}
 use Rattle.runs.proofs.Ranks.{rank_on}
 use Rattle.runs.proofs.Requests.{Request, entry, query, update, asks, replies, awaits}
 use Rattle.runs.proofs.RequestsHeard.{concerns, was_made, awaited_made, Makes, entered_makes, begun_makes, heard_makes, reply_asked, says_first}
-
--- one letter is said
-pub the_one : {A : Type 0} {a b : A} → Among a (b ∷ []) → a ≡ b
-the_one (inl e) = e
-the_one (inr e) = absurd e
 
 module _ {R : Type 0} where
   -- what a step says of a request is its first letter
@@ -86,11 +81,11 @@ module _ {R : Type 0} (z : Run R) where
   made_by : (s p : ℕ) (r : Request) (l : Letter R Set) (x : Step R) → Accepted z s x → Among l (said z.setup x (state z s)) → asks p r l.content ≡ true → MadeAt s (actor x) p r l
   unfolding said
   made_by s p r l step.Tick a m h = absurd m
-  made_by s p r l (step.Enter q) a m h = entering_made s q p r l a (the_one m) h
-  made_by s p r l (step.Leave q) a m h = absurd (both_ways _ (ap (λ (k : Letter R Set). asks p r k.content) (the_one m)) h)
+  made_by s p r l (step.Enter q) a m h = entering_made s q p r l a (alone _ _ m) h
+  made_by s p r l (step.Leave q) a m h = absurd (both_ways _ (ap (λ (k : Letter R Set). asks p r k.content) (alone _ _ m)) h)
   made_by s p r l (step.Crash q) a m h = absurd m
-  made_by s p r l (step.Read q) a m h = beginning_made s q p task.Read r l a (the_one m) h
-  made_by s p r l (step.Write q v) a m h = beginning_made s q p (task.Write v) r l a (the_one m) h
+  made_by s p r l (step.Read q) a m h = beginning_made s q p task.Read r l a (alone _ _ m) h
+  made_by s p r l (step.Write q v) a m h = beginning_made s q p (task.Write v) r l a (alone _ _ m) h
   made_by s p r l (step.Deliver n q) a m h = hearing_made s n q p r l a m h
 
   -- what was made stays made

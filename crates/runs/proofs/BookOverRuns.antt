@@ -3,6 +3,7 @@
 -- Rests on `Movement` and `Marks`.
 use Rattle.std.proofs.Common.{◌≡◌, ℕ, zero, suc, ◌+◌, ◌*◌, ◌<◌, ◌≤◌, min, true, List, [], ◌∷◌, length, take, sym, refl, ap, ◌∙◌, subst, inl, inr, arith}
 use Rattle.std.proofs.lemmas.Bool.{both_ways, and_parts, leb-true, cases_lt, cases_eq}
+use Rattle.std.proofs.lemmas.List.{length-take}
 use Rattle.network.specs.declared.operation.Task.TheVariants as task
 use Rattle.network.specs.declared.step.Step.{Step}
 use Rattle.network.specs.declared.step.Step.TheVariants as step
@@ -13,11 +14,6 @@ use Rattle.runs.proofs.Bounds.{N}
 use Rattle.runs.proofs.Clocks.{ClockStep, rises, rests, clock_step, clock_start}
 use Rattle.runs.proofs.Marks.{mark, lives_at_mark, lives_from_mark, mark_zero}
 use Rattle.runs.proofs.Movement.{is_move, moves, En, Lv, moves_between, same_lives, life_stays, enter_moves, leave_moves, MoveStep, moves_one, moves_none, move_step}
-
-length_of_take : {A : Type 0} (k : ℕ) (xs : List A) → length (take k xs) ≡ min k (length xs)
-length_of_take zero xs = omega arith
-length_of_take (suc k) [] = omega arith
-length_of_take (suc k) (x ∷ xs) = omega (arith, length_of_take k xs)
 
 module _ {R : Type 0} (z : Run R) where
   -- rows, the newest of which ended just before clock c, tell the truth where so many moves were made in all, and n of them since the newest ended
@@ -83,7 +79,7 @@ module _ {R : Type 0} (z : Run R) where
         rows = subst (λ k. RowsTell (moves z (suc b)) (clock z (suc b)) k.moves k.past) (sym book)
             (tell_fewer (moves z (suc b)) (clock z (suc b)) 0 (D z) _
             (clock z b, c, there.1, omega (arith, there.0), tell_more (moves z b) (moves z (suc b)) (clock z b) (state z b).book.moves (0 + (state z b).book.moves) _ (omega arith) h.rows));
-        so_many = ap (λ k. length k.past) book ∙ length_of_take (D z) _ ∙ (let n = h.so_many in omega arith);
+        so_many = ap (λ k. length k.past) book ∙ length-take (D z) _ ∙ (let n = h.so_many in omega arith);
       }
 
   book_by : (b : ℕ) (x : Step R) → Accepted z b x → BookTells b → BookTells (suc b)

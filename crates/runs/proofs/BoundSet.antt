@@ -1,5 +1,5 @@
 -- The bound of a station that joins: at whose answer it was set, and to what. Rests on `EntryAnswers`.
-use Rattle.std.proofs.Common.{◌≡◌, ℕ, zero, suc, ◌<◌, Bool, true, false, cond, ltb, is_some, Some, None, Option, sym, refl, ap, ◌∙◌, arith}
+use Rattle.std.proofs.Common.{◌≡◌, ℕ, zero, suc, ◌<◌, Bool, true, false, is_some, Some, None, Option, sym, refl, ap, ◌∙◌, arith}
 use Rattle.std.proofs.lemmas.Bool.Decides.{nat_tests}
 use Rattle.settings.specs.declared.choice.Choice.{Choice}
 use Rattle.network.specs.declared.content.Content.{Content}
@@ -9,7 +9,6 @@ use Rattle.network.specs.declared.register.Register.{Register}
 use Rattle.network.specs.declared.station.Station.{Station}
 use Rattle.network.specs.declared.step.Step.TheVariants as step
 use Rattle.network.specs.Hearing.{hear}
-use Rattle.network.specs.Keeping.{founder, unused_station}
 use Rattle.network.specs.Knowing.{Set, present_count, add_known}
 use Rattle.network.specs.States.{Copy}
 use Rattle.runs.proofs.Positions.{Run, station, waiting, Accepted}
@@ -18,7 +17,7 @@ use Rattle.runs.proofs.Changes.{Change, same, comes, fades, begins_one, hears_on
 use Rattle.runs.proofs.EntryAnswers.{reply_answer}
 use Rattle.runs.proofs.Requests.{entry, replies}
 use Rattle.runs.proofs.RequestsHeard.{some_of}
-use Rattle.runs.proofs.Start.{station_start}
+use Rattle.runs.proofs.Start.{at_start}
 use Rattle.runs.proofs.Tallies.{copy_reply}
 use Rattle.runs.proofs.Travel.{Answer}
 
@@ -50,11 +49,7 @@ module _ {R : Type 0} (z : Run R) where
     pub is : bound ≡ present_count (add_known (station z set_at p).known (station z (suc given_at) q).known)
 
   start_unbounded : (p : ℕ) → (station z 0 p).bound ≡ None
-  start_unbounded p = ap (λ x. x.bound) (station_start z p) ∙ by (ltb p z.founders)
-    where
-      by : (b : Bool) → (cond b (founder z.setup.first z.founders) (unused_station z.setup.first)).bound ≡ None
-      by true = refl
-      by false = refl
+  start_unbounded p = at_start z (λ x. x.bound) None refl refl p
 
   first_bound : (i p n b : ℕ) (c : Copy R) → Accepted z i (step.Deliver n p) → waiting z i n p ≡ Some c → station z (suc i) p ≡ hear z.setup.choice p c.content (station z i p)
       → (station z i p).bound ≡ None → (station z (suc i) p).bound ≡ Some b → BoundSet (suc i) p b

@@ -10,8 +10,8 @@ use Rattle.network.specs.Hearing.{hear}
 use Rattle.network.specs.Knowing.{Set}
 use Rattle.network.specs.Saying.{letters, says}
 use Rattle.runs.proofs.Positions.{Run, station}
-use Rattle.runs.proofs.Asked.{the_one, Reply, reply_from}
-use Rattle.runs.proofs.Hearings.{HearsAt}
+use Rattle.runs.proofs.Asked.{Reply, reply_from}
+use Rattle.runs.proofs.Hearings.{HearsAt, alone}
 use Rattle.runs.proofs.Mails.{Among}
 use Rattle.runs.proofs.Requests.{entry, asks}
 use Rattle.runs.proofs.Travel.{Answer}
@@ -22,7 +22,7 @@ module _ {R : Type 0} where
 
   said_answer : (q p : ℕ) (x y : Station R Set) (l : Letter R Set) → Among l (letters (says q (Enter p) x y)) → l.content ≡ EnterEcho y.known y.register y.joined p
   unfolding says
-  said_answer q p x y l a = ap (λ (k : Letter R Set). k.content) (the_one a)
+  said_answer q p x y l a = ap (λ (k : Letter R Set). k.content) (alone _ _ a)
 
 module _ {R : Type 0} (z : Run R) where
   pub reply_answer : (u p q : ℕ) (d : Reply z u p q entry) → Answer z p d.place q u

@@ -1,6 +1,6 @@
 -- The log along a run: whoever has an operation under way has its entry, not yet ended, as its latest;
 -- an entry stays that of its operation, and one that ended never changes. Rests on `Accepted`, `Changes` and `Entries`.
-use Rattle.std.proofs.Common.{◌≡◌, ℕ, zero, suc, ◌≤◌, Bool, true, false, cond, ltb, List, is_some, Some, None, sym, refl, ap, ◌∙◌, subst, inl, inr, slice_get}
+use Rattle.std.proofs.Common.{◌≡◌, ℕ, zero, suc, ◌≤◌, Bool, true, false, List, is_some, Some, None, sym, refl, ap, ◌∙◌, subst, inl, inr, slice_get}
 use Rattle.std.proofs.lemmas.Bool.{both_ways, cases_eq, cases_Bool}
 use Rattle.stations.specs.Members.{put}
 use Rattle.stations.proofs.Counting.{put_here, put_other}
@@ -12,13 +12,13 @@ use Rattle.network.specs.declared.step.Step.{Step}
 use Rattle.network.specs.declared.step.Step.TheVariants as step
 use Rattle.network.specs.Changes.{log_heard}
 use Rattle.network.specs.Hearing.{hear}
-use Rattle.network.specs.Keeping.{under_way, unused_station, founder, newcomer}
+use Rattle.network.specs.Keeping.{under_way, newcomer}
 use Rattle.network.specs.Knowing.{Set}
 use Rattle.network.specs.Logs.{Log, open_entry, opened, at_latest, changed_at}
 use Rattle.network.specs.States.{Copy}
 use Rattle.runs.proofs.Positions.{Run, state, station, clock, Accepted, OutcomeOf, goes, stays, outcome_of, onward}
 use Rattle.runs.proofs.Accepted.{step_of, ticks, enters, leaves, crashes, begins, hears}
-use Rattle.runs.proofs.Start.{station_start}
+use Rattle.runs.proofs.Start.{at_start}
 use Rattle.runs.proofs.Changes.{unused_blank}
 use Rattle.runs.proofs.Entries.{element_old, element_new, changed_here, changed_elsewhere, SameOperation, same_itself, same_twice, heard_same, idle_entry, open_stays, heard_under_way}
 
@@ -102,11 +102,7 @@ module _ {R : Type 0} (z : Run R) where
 
   -- whoever has an operation under way has an open entry
   pub open_entry_of : (i q : ℕ) → busy i q ≡ true → OpenEntry i q
-  open_entry_of zero q h = absurd (both_ways _ (idle (ltb q z.founders)) (sym (ap (λ x. under_way x.operation) (station_start z q)) ∙ h))
-    where
-      idle : (b : Bool) → under_way (cond b (founder z.setup.first z.founders) (unused_station z.setup.first)).operation ≡ false
-      idle true = refl
-      idle false = refl
+  open_entry_of zero q h = absurd (both_ways _ (at_start z (λ x. under_way x.operation) false refl refl q) h)
   open_entry_of (suc i) q h = by (log_step i) (open_entry_of i)
     where
       by : LogStep i → ((p : ℕ) → busy i p ≡ true → OpenEntry i p) → OpenEntry (suc i) q

@@ -1,6 +1,6 @@
 -- Records follow stamps: whatever a station holds is the first record, or one that a write made under that stamp; stamps are
 -- made once, and are higher than the first. Rests on `RecordsSaid`, `Hearings`, `Changes` and `Stamps`.
-use Rattle.std.proofs.Common.{◌≡◌, ℕ, zero, suc, ◌<◌, ◌≤◌, Bool, true, false, cond, ltb, ◌⊎◌, Some, sym, refl, ap, ◌∙◌, subst, ap₂, inl, inr, le_refl, arith}
+use Rattle.std.proofs.Common.{◌≡◌, ℕ, zero, suc, ◌<◌, ◌≤◌, true, false, ◌⊎◌, Some, sym, refl, ap, ◌∙◌, subst, ap₂, inl, inr, le_refl, arith}
 use Rattle.std.proofs.lemmas.Bool.{both_ways, cases_order, cases_lt}
 use Rattle.network.specs.declared.operation.Operation.{Operation}
 use Rattle.network.specs.declared.operation.Operation.TheVariants.{PhaseOne, PhaseTwo}
@@ -10,13 +10,12 @@ use Rattle.network.specs.declared.poll.Poll.{Poll}
 use Rattle.network.specs.declared.register.Register.{Register}
 use Rattle.network.specs.declared.stamp.Stamp.{Stamp}
 use Rattle.network.specs.declared.station.Station.{Station}
-use Rattle.network.specs.Keeping.{unused_station, founder}
 use Rattle.network.specs.Knowing.{Set}
 use Rattle.network.specs.Polls.{new_poll}
 use Rattle.network.specs.Stamps.{higher, first_stamp, next_stamp, first_register}
 use Rattle.network.specs.States.{Copy}
 use Rattle.runs.proofs.Positions.{Run, station, waiting}
-use Rattle.runs.proofs.Start.{station_start}
+use Rattle.runs.proofs.Start.{at_start}
 use Rattle.runs.proofs.Changes.{Change, same, comes, fades, begins_one, hears_one, change, grown}
 use Rattle.runs.proofs.Hearings.{Cause, of_enter, of_leave, of_begin, of_hearing, caused}
 use Rattle.runs.proofs.RecordsSaid.{begins_to_write, offer_in, Wrote, Recorded, rests, not_to_idle, not_to_one, hear_record, says_record}
@@ -88,11 +87,7 @@ module _ {R : Type 0} (z : Run R) where
       by (hears_one n c a w e) = heard n c w (subst (Recorded q first c.content (station z i q)) (sym e) (hear_record z.setup.choice q first c.content (station z i q)))
 
   valid_up_to : (i : ℕ) → ValidUpTo i
-  valid_up_to zero j q l = let e : j ≡ 0 = omega arith in inl (ap (λ i. (station z i q).register) e ∙ ap (λ (x : Station R Set). x.register) (station_start z q) ∙ at_start (ltb q z.founders))
-    where
-      at_start : (b : Bool) → (cond b (founder z.setup.first z.founders) (unused_station z.setup.first)).register ≡ first_register z.setup.first
-      at_start true = refl
-      at_start false = refl
+  valid_up_to zero j q l = let e : j ≡ 0 = omega arith in inl (ap (λ i. (station z i q).register) e ∙ at_start z (λ x. x.register) (first_register z.setup.first) refl refl q)
   valid_up_to (suc i) j q l =
       elim (cases_lt j (suc i)) [
         | inl k ↦ valid_up_to i j q (omega arith)

@@ -1,6 +1,6 @@
 -- Numbers stay small: clock, log, tags, bounds and bases of quorums, and what is counted. A counted message is a copy that waits no more,
 -- so echoes and replies are at most the numbers given so far. Rests on `Clocks`, `LogOverRuns`, `Changes` and `Provenance`.
-use Rattle.std.proofs.Common.{◌≡◌, ℕ, zero, suc, ◌+◌, ◌-◌, ◌<◌, ◌≤◌, Bool, true, false, cond, not, ltb, length, is_some, Some, None, Option, sym, refl, ap, ◌∙◌, subst, le_trans, le_refl, arith}
+use Rattle.std.proofs.Common.{◌≡◌, ℕ, zero, suc, ◌+◌, ◌-◌, ◌<◌, ◌≤◌, Bool, true, not, length, is_some, Some, None, Option, sym, refl, ap, ◌∙◌, subst, le_trans, le_refl, arith}
 use Rattle.std.proofs.lemmas.Bool.{both_ways}
 use Rattle.std.proofs.lemmas.List.{length_push}
 use Rattle.settings.specs.declared.choice.Choice.{Choice}
@@ -12,14 +12,14 @@ use Rattle.network.specs.declared.operation.Operation.TheVariants.{Idle, PhaseOn
 use Rattle.network.specs.declared.station.Station.{Station}
 use Rattle.network.specs.declared.step.Step.TheVariants as step
 use Rattle.network.specs.Hearing.{hear}
-use Rattle.network.specs.Keeping.{tag_of, unused_station, founder}
+use Rattle.network.specs.Keeping.{tag_of}
 use Rattle.network.specs.Knowing.{Set, most_stations}
 use Rattle.network.specs.Logs.{Log}
 use Rattle.network.specs.Refusals.{last_tick, last_number}
 use Rattle.network.specs.States.{Copy}
 use Rattle.runs.proofs.Positions.{Run, state, state_start, station, clock, waiting, Accepted, onward}
 use Rattle.runs.proofs.Accepted.{ticks, begins, hears}
-use Rattle.runs.proofs.Start.{station_start}
+use Rattle.runs.proofs.Start.{at_start}
 use Rattle.runs.proofs.Clocks.{ClockStep, rises, rests, clock_step, clock_start, next_step, numbers_in_range}
 use Rattle.runs.proofs.Changes.{Change, same, comes, fades, begins_one, hears_one, change, stationwise}
 use Rattle.runs.proofs.Copies.{numbered, never_again}
@@ -87,11 +87,7 @@ module _ {R : Type 0} (z : Run R) where
 
   -- a station's tag is at most the number of operations begun
   pub tag_fits : (i q : ℕ) → tag_of (station z i q).operation ≤ begun_so_far i
-  tag_fits zero q = omega (arith, ap (λ s. tag_of s.operation) (station_start z q) ∙ first (ltb q z.founders))
-    where
-      first : (b : Bool) → tag_of (cond b (founder z.setup.first z.founders) (unused_station z.setup.first)).operation ≡ 0
-      first true = refl
-      first false = refl
+  tag_fits zero q = omega (arith, at_start z (λ x. tag_of x.operation) 0 refl refl q)
   tag_fits (suc i) q = by (change z i q) (tag_fits i q) (log_longer i).0
     where
       by : Change z i q → tag_of (station z i q).operation ≤ begun_so_far i → begun_so_far i ≤ begun_so_far (suc i) → tag_of (station z (suc i) q).operation ≤ begun_so_far (suc i)
@@ -104,21 +100,13 @@ module _ {R : Type 0} (z : Run R) where
   -- bounds and bases are counts of stations
   pub base_fits : (i q : ℕ) → base_of (station z i q).operation ≤ most_stations
   base_fits =
-      stationwise z (λ q x. base_of x.operation ≤ most_stations) (λ q. first (ltb q z.founders)) (λ i q e. omega arith) (λ i q l c f h. h)
+      stationwise z (λ q x. base_of x.operation ≤ most_stations) (λ q. grind arith) (λ i q e. omega arith) (λ i q l c f h. h)
       (λ i q t b h. how_many_bound _ most_stations) (λ i q n c a w h. hear_base z.setup.choice q c.content (station z i q) h)
-    where
-      first : (b : Bool) → base_of (cond b (founder z.setup.first z.founders) (unused_station z.setup.first)).operation ≤ most_stations
-      first true = omega arith
-      first false = omega arith
 
   pub bound_fits : (i q : ℕ) → bound_of (station z i q).bound ≤ most_stations
   bound_fits =
-      stationwise z (λ q x. bound_of x.bound ≤ most_stations) (λ q. first (ltb q z.founders)) (λ i q e. omega arith) (λ i q l c f h. h)
+      stationwise z (λ q x. bound_of x.bound ≤ most_stations) (λ q. grind arith) (λ i q e. omega arith) (λ i q l c f h. h)
       (λ i q t b h. h) (λ i q n c a w h. hear_bound z.setup.choice q c.content (station z i q) h)
-    where
-      first : (b : Bool) → bound_of (cond b (founder z.setup.first z.founders) (unused_station z.setup.first)).bound ≤ most_stations
-      first true = omega arith
-      first false = omega arith
 
   -- the numbers given so far that do not wait for q
   abbrev past : ℕ → ℕ → ℕ → Bool
@@ -164,15 +152,7 @@ module _ {R : Type 0} (z : Run R) where
 
   counted_few : (i q : ℕ) → CountedFew i q
   unfolding CountedFew
-  counted_few zero q = (omega (arith, ap (λ s. s.echoes) (station_start z q) ∙ echoes (ltb q z.founders)), omega (arith, ap (λ s. replies_of s.operation) (station_start z q) ∙ replies (ltb q z.founders)))
-    where
-      echoes : (b : Bool) → (cond b (founder z.setup.first z.founders) (unused_station z.setup.first)).echoes ≡ 0
-      echoes true = refl
-      echoes false = refl
-
-      replies : (b : Bool) → replies_of (cond b (founder z.setup.first z.founders) (unused_station z.setup.first)).operation ≡ 0
-      replies true = refl
-      replies false = refl
+  counted_few zero q = (omega (arith, at_start z (λ x. x.echoes) 0 refl refl q), omega (arith, at_start z (λ x. replies_of x.operation) 0 refl refl q))
   counted_few (suc i) q = by (change z i q) (counted_few i q).0 (counted_few i q).1 (passed_on i q)
     where
       by : Change z i q → (station z i q).echoes ≤ passed i q → replies_of (station z i q).operation ≤ passed i q → passed i q ≤ passed (suc i) q

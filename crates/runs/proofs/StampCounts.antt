@@ -1,6 +1,6 @@
 -- Stamp counts stay small: every stamp's count, at stations and in copies, and the operations that are in phase one, come
 -- together to at most the length of the log. Rests on `StampsSaid`, `Changes`, `Copies` and `SmallNumbers`.
-use Rattle.std.proofs.Common.{◌≡◌, ℕ, zero, suc, ◌+◌, ◌-◌, ◌<◌, ◌≤◌, Bool, true, false, cond, ltb, length, Some, sym, refl, ap, ◌∙◌, subst, inl, inr, ⊎_elim, le_trans, le_refl, arith}
+use Rattle.std.proofs.Common.{◌≡◌, ℕ, zero, suc, ◌+◌, ◌-◌, ◌<◌, ◌≤◌, false, length, Some, sym, refl, ap, ◌∙◌, subst, inl, inr, ⊎_elim, le_trans, le_refl, arith}
 use Rattle.std.proofs.lemmas.Bool.{both_ways, cases_eq}
 use Rattle.std.proofs.lemmas.List.{length_push}
 use Rattle.stations.specs.Members.{put, how_many}
@@ -15,13 +15,13 @@ use Rattle.network.specs.declared.step.Step.{Step}
 use Rattle.network.specs.declared.step.Step.TheVariants as step
 use Rattle.network.specs.Changes.{begin, said, answer, heard}
 use Rattle.network.specs.Hearing.{hear}
-use Rattle.network.specs.Keeping.{under_way, newcomer, unused_station, founder, with_life, with_crashed}
+use Rattle.network.specs.Keeping.{under_way, newcomer, with_life, with_crashed}
 use Rattle.network.specs.Knowing.{Set, most_stations}
 use Rattle.network.specs.Saying.{says}
 use Rattle.network.specs.States.{Copy}
 use Rattle.runs.proofs.Positions.{Run, state, state_start, station, waiting, Accepted, OutcomeOf, goes, stays, outcome_of}
 use Rattle.runs.proofs.Accepted.{some_is_not_none, ticks, enters, leaves, crashes, Begins, begins, hears}
-use Rattle.runs.proofs.Start.{table_high, station_start}
+use Rattle.runs.proofs.Start.{table_high, at_start}
 use Rattle.runs.proofs.Changes.{unused_blank}
 use Rattle.runs.proofs.Copies.{Posted, source}
 use Rattle.runs.proofs.Bounds.{one_step}
@@ -166,18 +166,10 @@ module _ {R : Type 0} (z : Run R) where
   low zero =
       record {
         spare = 0;
-        is = omega (arith, how_many_none (λ q. in_phase_one (station z 0 q).operation) most_stations (λ q l. ap (λ (x : Station R Set). in_phase_one x.operation) (station_start z q) ∙ idle (ltb q z.founders)), ap (λ s. length s.log.entries) (state_start z));
-        at_stations = λ q. omega (arith, ap (λ (x : Station R Set). x.register.stamp.count) (station_start z q) ∙ first (ltb q z.founders));
+        is = omega (arith, how_many_none (λ q. in_phase_one (station z 0 q).operation) most_stations (λ q l. at_start z (λ x. in_phase_one x.operation) false refl refl q), ap (λ s. length s.log.entries) (state_start z));
+        at_stations = λ q. omega (arith, at_start z (λ x. x.register.stamp.count) 0 refl refl q);
         in_copies = λ n q c w. absurd (some_is_not_none c (sym w ∙ ap (λ s. s.waits n q) (state_start z)));
       }
-    where
-      idle : (b : Bool) → in_phase_one (cond b (founder z.setup.first z.founders) (unused_station z.setup.first)).operation ≡ false
-      idle true = refl
-      idle false = refl
-
-      first : (b : Bool) → (cond b (founder z.setup.first z.founders) (unused_station z.setup.first)).register.stamp.count ≡ 0
-      first true = refl
-      first false = refl
   low (suc i) = by (outcome_of z i) (low i)
     where
       by : OutcomeOf z i → Low i → Low (suc i)

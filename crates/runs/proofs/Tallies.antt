@@ -1,6 +1,6 @@
 -- Whose replies a station has counted for a request, by recursion on the position; and while it waits, that they are as many
 -- as its tally. Rests on `Asked` (a reply is heard once) and `Changes`.
-use Rattle.std.proofs.Common.{◌≡◌, ℕ, zero, suc, ◌+◌, ◌<◌, ◌≤◌, Bool, true, false, cond, not, ◌&&◌, ◌||◌, eqb, ltb, ◌⊎◌, is_some, Some, None, Option, sym, refl, ap, ◌∙◌, subst, inl, inr, arith, slice_get}
+use Rattle.std.proofs.Common.{◌≡◌, ℕ, zero, suc, ◌+◌, ◌<◌, ◌≤◌, Bool, true, false, not, ◌&&◌, ◌||◌, eqb, ◌⊎◌, is_some, Some, None, Option, sym, refl, ap, ◌∙◌, subst, inl, inr, arith, slice_get}
 use Rattle.std.proofs.lemmas.Bool.{both_ways, cases_Bool, and_parts, and_from, or_cases, or_left, or_right, eqb-true, eq-eqb, not-true, not_from_false}
 use Rattle.std.proofs.lemmas.Bool.Decides.{nat_tests}
 use Rattle.stations.specs.Members.{how_many}
@@ -26,7 +26,7 @@ use Rattle.runs.proofs.Hearings.{hears_copy}
 use Rattle.runs.proofs.Ranks.{rank_on, rank_query, query_rank, rank_update, update_rank}
 use Rattle.runs.proofs.Requests.{Request, entry, query, update, replies, awaits, tally}
 use Rattle.runs.proofs.RequestsHeard.{hear_tally, hear_new}
-use Rattle.runs.proofs.Start.{station_start}
+use Rattle.runs.proofs.Start.{at_start}
 
 no_fault : (o : Option StepFault) → not (is_some o) ≡ true → o ≡ None
 no_fault None h = refl
@@ -76,8 +76,8 @@ module _ {R : Type 0} where
   unused_tally : (first : R) (r : Request) → tally (unused_station first) r ≡ 0
   unused_tally first r = grind arith
 
-  start_tally : (first : R) (k : ℕ) (b : Bool) (r : Request) → tally (cond b (founder first k) (unused_station first)) r ≡ 0
-  start_tally first k b r = grind arith
+  founder_tally : (first : R) (k : ℕ) (r : Request) → tally (founder first k) r ≡ 0
+  founder_tally first k r = grind arith
 
 module _ {R : Type 0} (z : Run R) where
   -- at step i, p counts the reply of q
@@ -177,7 +177,7 @@ module _ {R : Type 0} (z : Run R) where
   -- while it waits, the tally is the number of those counted
   pub tally_counts : (p : ℕ) (r : Request) (i : ℕ) → awaits (station z i p) r ≡ true → how_many (counted p r i) most_stations ≡ tally (station z i p) r
   tally_counts p r zero w =
-      how_many_none _ most_stations (λ q l. none q (cases_Bool (counted p r 0 q))) ∙ sym (ap (λ x. tally x r) (station_start z p) ∙ start_tally z.setup.first z.founders (ltb p z.founders) r)
+      how_many_none _ most_stations (λ q l. none q (cases_Bool (counted p r 0 q))) ∙ sym (at_start z (λ x. tally x r) 0 (founder_tally z.setup.first z.founders r) (unused_tally z.setup.first r) p)
     where
       none : (q : ℕ) → (counted p r 0 q ≡ true) ⊎ (counted p r 0 q ≡ false) → counted p r 0 q ≡ false
       none q (inl e) = let (u, l, d, v) = counted_reply p r 0 q e in absurd (omega (arith, l))
