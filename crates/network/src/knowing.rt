@@ -18,6 +18,7 @@ impl Known<Stations> {
         }
     }
 
+    // Three methods and not one that takes the set: rules have a word for each.
     pub(crate) fn note_entered(&mut self, p: u8)
         ensures { shown_known self.new ≡ note_entered p (shown_known self.old) }
     {
@@ -45,7 +46,8 @@ impl Known<Stations> {
         self.left.add_all(&other.left);
     }
 
-    // How many have entered and not left.
+    // How many have entered and not left. Not one method with `members` that takes the set: each is a number of its own in the
+    // rules, this one the bound of who joins, the other the base of a poll.
     pub(crate) fn present(&self) -> u16
         ensures value { result ≡ present_count (shown_known self.now) }
         ensures bound { result ≤ 256 }
