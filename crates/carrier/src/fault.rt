@@ -14,12 +14,12 @@ pub enum CarrierFault {
     NoRoom,
 }
 
-impl CarrierFault {
+impl From<CarrierFault> for Refusal {
+    ghost from_gives = { λ e r. r ≡ told e };
+
     // The refusal as a caller is told of it; whoever knows the place adds it.
-    pub fn refusal(&self) -> Refusal
-        ensures { result ≡ told self.now }
-    {
-        let number = match self {
+    fn from(e: CarrierFault) -> Refusal {
+        let number = match e {
             CarrierFault::NotWaiting => 40,
             CarrierFault::NumbersUsedUp => 41,
             CarrierFault::NoRoom => 42,

@@ -66,7 +66,7 @@ impl StepFault {
             StepFault::TooManyCrashed => (32, Layer::Step),
             StepFault::CopyDue => (33, Layer::Step),
             StepFault::ClockEnd => (34, Layer::Step),
-            StepFault::Carrier(f) => (f.refusal().number, Layer::Carrier),
+            StepFault::Carrier(f) => (Refusal::from(*f).number, Layer::Carrier),
             StepFault::Log(f) => (f.number(), Layer::Log),
         };
         Refusal {
