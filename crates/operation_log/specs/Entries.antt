@@ -40,7 +40,8 @@ module _ {R : Type 0} where
   abbrev pub places : OperationLog R → ℕ
   places l = length l.entries.now
 
-  -- the memory that is lent stays lent, and past the entries that are opened it is as it was
+  -- the memory that is lent stays lent, and past the entries that are opened it is as it was;
+  -- no invariant, since it ties a log to what it was before
   pub record SameMemory (old new : OperationLog R) : Type 0 where
     pub rest : drop new.len new.entries.now ≡ drop new.len old.entries.now
     pub size : places new ≡ places old

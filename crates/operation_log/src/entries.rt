@@ -1,10 +1,11 @@
 // An entry as it opens, counts replies and ends, and the entry at a place of a slice.
-ghost use Rattle.std.specs.Prelude.{◌≡◌, ◌<◌, min, true, length, Some, slice_set};
+ghost use Rattle.std.specs.Prelude.{◌≡◌, ◌<◌, true, length, take, Some, slice_get, slice_set};
 ghost use Rattle.operation_log.specs.Entries.{counts_may_rise};
 ghost use Rattle.network.specs.Logs.{opened, opening_value, count_one, count_two, close};
-ghost use Rattle.network.specs.Steps.{element};
 
 use network::{Entry, Task};
+
+// Functions, and no methods: `Entry` is another crate's, and a trait for it alone would say each of them twice.
 
 // The entry of an operation that begins.
 pub(crate) fn opened<R: Copy>(first: R, p: u8, task: Task<R>, clock: u16) -> Entry<R>
@@ -39,36 +40,44 @@ pub(crate) fn can_count<R: Copy>(entry: &Entry<R>) -> bool
 }
 
 // A reply more in phase one.
-pub(crate) fn count_one<R: Copy>(entry: &mut Entry<R>)
-    requires { counts_may_rise (Some entry.old) ≡ true }
-    ensures { entry.new ≡ count_one entry.old }
+pub(crate) fn count_one<R: Copy>(entry: Entry<R>) -> Entry<R>
+    requires { counts_may_rise (Some entry) ≡ true }
+    ensures { result ≡ count_one entry }
 {
-    entry.replies_one += 1;
+    Entry {
+        replies_one: entry.replies_one + 1,
+        ..entry
+    }
 }
 
 // A reply more in phase two.
-pub(crate) fn count_two<R: Copy>(entry: &mut Entry<R>)
-    requires { counts_may_rise (Some entry.old) ≡ true }
-    ensures { entry.new ≡ count_two entry.old }
+pub(crate) fn count_two<R: Copy>(entry: Entry<R>) -> Entry<R>
+    requires { counts_may_rise (Some entry) ≡ true }
+    ensures { result ≡ count_two entry }
 {
-    entry.replies_two += 1;
+    Entry {
+        replies_two: entry.replies_two + 1,
+        ..entry
+    }
 }
 
 // The last reply of phase two: the operation ends, and shows its kept record.
-pub(crate) fn close<R: Copy>(entry: &mut Entry<R>, kept: R, clock: u16)
-    requires { counts_may_rise (Some entry.old) ≡ true }
-    ensures { entry.new ≡ close kept clock entry.old }
+pub(crate) fn close<R: Copy>(entry: Entry<R>, kept: R, clock: u16) -> Entry<R>
+    requires { counts_may_rise (Some entry) ≡ true }
+    ensures { result ≡ close kept clock entry }
 {
-    count_two(entry);
-    entry.value = kept;
-    entry.end = Some(clock);
+    Entry {
+        value: kept,
+        end: Some(clock),
+        ..count_two(entry)
+    }
 }
 
-// How many entries are opened, of those that there are.
-pub(crate) fn opened_of<R: Copy>(entries: &[Entry<R>], len: usize) -> usize
-    ensures { result ≡ min len (length entries.now) }
+// The entries that are opened, of those that there are.
+pub(crate) fn opened_of<R: Copy>(entries: &[Entry<R>], len: usize) -> &[Entry<R>]
+    ensures { result.now ≡ take len entries.now }
 {
-    len.min(entries.len())
+    &entries[..len.min(entries.len())]
 }
 
 // Writes one entry.
@@ -81,11 +90,7 @@ pub(crate) fn put_at<R: Copy>(entries: &mut [Entry<R>], at: usize, entry: Entry<
 
 // The entry at a place, if there is one.
 pub(crate) fn entry_at<R: Copy>(entries: &[Entry<R>], at: usize) -> Option<Entry<R>>
-    ensures { result ≡ element entries.now at }
+    ensures { result ≡ slice_get entries.now at }
 {
-    if at < entries.len() {
-        Some(entries[at])
-    } else {
-        None
-    }
+    entries.get(at).copied()
 }

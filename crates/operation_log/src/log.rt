@@ -1,10 +1,11 @@
 // The log of operations over lent entries.
-ghost use Rattle.std.specs.Prelude.{◌≡◌, ◌+◌, ◌<◌, length, if◌then◌else◌, Ok, Err, slice_index, slice_set};
+ghost use Rattle.std.specs.Prelude.{◌≡◌, ◌+◌, ◌<◌, true, length, if◌then◌else◌, Some, Ok, Err, slice_index, slice_set};
 ghost use Rattle.settings.specs.Admission.{unless};
 ghost use Rattle.settings.specs.Faults.{outcome};
 ghost use Rattle.settings.specs.declared.fault.SettingsFault.TheVariants.{MemorySize};
-ghost use Rattle.operation_log.specs.Entries.{latest_of, log_of, log_size, places, can_open, can_count, latest_entry, SameMemory};
+ghost use Rattle.operation_log.specs.Entries.{counts_may_rise, latest_of, log_of, log_size, places, can_open, can_count, latest_entry, SameMemory};
 ghost use Rattle.network.specs.Logs.{new_log, open_entry, at_latest, count_one, count_two, close};
+ghost use Rattle.network.specs.declared.entry.Entry.{Entry};
 ghost use Rattle.network.specs.declared.fault.LogFault.TheVariants.{Full};
 
 use crate::entries::{can_count, close, count_one, count_two, entry_at, opened, opened_of, put_at};
@@ -16,7 +17,7 @@ pub struct OperationLog<'a, R> {
     entries: &'a mut [Entry<R>],
     // how many entries are opened
     len: usize,
-    // the place of each station's latest entry
+    // the place of each station's latest entry; 0 and no Option where it has none, as in the log of the rules
     latest: [usize; 256],
 }
 
@@ -41,7 +42,7 @@ impl<'a, R: Copy> OperationLog<'a, R> {
     pub fn len(&self) -> usize
         ensures { result ≡ length (log_of self.now).entries }
     {
-        opened_of(self.entries, self.len)
+        opened_of(self.entries, self.len).len()
     }
 
     // Whether an operation more can be opened.
@@ -85,14 +86,7 @@ impl<'a, R: Copy> OperationLog<'a, R> {
         ensures after { log_of self.new ≡ (if can_count p (log_of self.old) then at_latest p count_one (log_of self.old) else log_of self.old) }
         ensures memory { SameMemory self.old self.new }
     {
-        if let Some(mut entry) = self.latest_entry(p) {
-            if !can_count(&entry) {
-                return false;
-            }
-            count_one(&mut entry);
-            self.put_latest(p, entry);
-        }
-        true
+        self.change_latest(p, count_one)
     }
 
     // Counts a reply of phase two in p's latest entry, in the same way.
@@ -101,14 +95,7 @@ impl<'a, R: Copy> OperationLog<'a, R> {
         ensures after { log_of self.new ≡ (if can_count p (log_of self.old) then at_latest p count_two (log_of self.old) else log_of self.old) }
         ensures memory { SameMemory self.old self.new }
     {
-        if let Some(mut entry) = self.latest_entry(p) {
-            if !can_count(&entry) {
-                return false;
-            }
-            count_two(&mut entry);
-            self.put_latest(p, entry);
-        }
-        true
+        self.change_latest(p, count_two)
     }
 
     // Counts the last reply in p's latest entry, in the same way: the operation ends, and shows its kept record.
@@ -117,12 +104,21 @@ impl<'a, R: Copy> OperationLog<'a, R> {
         ensures after { log_of self.new ≡ (if can_count p (log_of self.old) then at_latest p (close kept clock) (log_of self.old) else log_of self.old) }
         ensures memory { SameMemory self.old self.new }
     {
-        if let Some(mut entry) = self.latest_entry(p) {
+        self.change_latest(p, |entry| close(entry, kept, clock))
+    }
+
+    // Changes p's latest entry, if it has one; where a count cannot rise, nothing changes.
+    fn change_latest<F: FnOnce(Entry<R>) -> Entry<R>>(&mut self, p: u8, change: F) -> bool
+        requires { (e : Entry R) → counts_may_rise (Some e) ≡ true → F.pre change e }
+        ensures value { result ≡ can_count p (log_of self.old) }
+        ensures after { (f : Entry R → Entry R) → ((e y : Entry R) → F.post change e y → y ≡ f e) → log_of self.new ≡ (if can_count p (log_of self.old) then at_latest p f (log_of self.old) else log_of self.old) }
+        ensures memory { SameMemory self.old self.new }
+    {
+        if let Some(entry) = self.latest_entry(p) {
             if !can_count(&entry) {
                 return false;
             }
-            close(&mut entry, kept, clock);
-            self.put_latest(p, entry);
+            self.put_latest(p, change(entry));
         }
         true
     }
@@ -147,14 +143,11 @@ impl<'a, R: Copy> OperationLog<'a, R> {
     }
 
     // The latest entry of p, if there is one.
+    #[tactic(auto, using(crate::proofs::Places::element_got))]
     pub fn latest_entry(&self, p: u8) -> Option<Entry<R>>
         ensures { result ≡ latest_entry p (log_of self.now) }
     {
-        let at = self.latest_place(p);
-        if at >= self.len {
-            return None;
-        }
-        entry_at(self.entries, at)
+        entry_at(opened_of(self.entries, self.len), self.latest_place(p))
     }
 
     // Forgets every entry, for a new run.
