@@ -4,7 +4,7 @@ ghost use Rattle.std.specs.Prelude.{◌<◌, ◌≤◌};
 mod counting;
 
 // A tick: its arrivals and departures, and how many stations were present when it ended.
-#[derive(Clone, Copy)]
+#[derive(Clone, Copy, Default)]
 pub struct TickRow {
     moves: u32,
     present: u16,

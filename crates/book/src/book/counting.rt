@@ -1,5 +1,5 @@
 // The calls of the limit book: a move is noted, a tick ends, and whether one more move is allowed.
-ghost use Rattle.std.specs.Prelude.{◌≡◌, ◌+◌, ◌%◌, ◌≤◌, min, true, length, if◌then◌else◌, slice_set};
+ghost use Rattle.std.specs.Prelude.{◌≡◌, ◌+◌, ◌%◌, ◌≤◌, min, true, if◌then◌else◌, slice_set};
 ghost use Rattle.network.specs.Books.{new_book, with_move, end_tick, allows};
 ghost use Rattle.network.specs.Limits.{may_rise};
 ghost use Rattle.book.specs.Rings.{book_of, can_note};
@@ -8,12 +8,6 @@ use super::{LimitBook, TickRow};
 use settings::Settings;
 
 impl TickRow {
-    // Nothing noted yet.
-    const EMPTY: TickRow = TickRow {
-        moves: 0,
-        present: 0,
-    };
-
     // One arrival or departure more.
     fn note(&mut self)
         requires { may_rise self.old.moves ≡ true }
@@ -23,8 +17,10 @@ impl TickRow {
     }
 }
 
+// `same` stands at each call that changes a book: no type says of a field that it stays as it was.
 impl LimitBook {
     // The book of a new run: nothing has moved, and no tick has ended.
+    #[tactic(auto, unfolding(crate::specs::Rings::ring))]
     pub fn new(settings: &Settings) -> LimitBook
         ensures start { book_of result ≡ new_book }
         ensures same { result.delay ≡ settings.now.choice.d }
@@ -40,8 +36,8 @@ impl LimitBook {
         ensures same { result.delay ≡ delay }
     {
         LimitBook {
-            current: TickRow::EMPTY,
-            rows: [TickRow::EMPTY; 32],
+            current: TickRow::default(),
+            rows: [TickRow::default(); 32],
             newest: 0,
             kept: 0,
             delay,
@@ -54,6 +50,7 @@ impl LimitBook {
         ensures after { book_of self.new ≡ (if can_note (book_of self.old) then with_move (book_of self.old) else book_of self.old) }
         ensures same { self.new.delay ≡ self.old.delay }
     {
+        // lent here, since a method that returned it would owe a clause on what the loan leaves behind
         let row = &mut self.current;
         if row.moves == u32::MAX {
             return false;
@@ -69,13 +66,12 @@ impl LimitBook {
     {
         let moves = self.current.moves;
         self.push(TickRow { moves, present });
-        self.current = TickRow::EMPTY;
+        self.current = TickRow::default();
     }
 
     // Writes a row ahead of the newest; that of the oldest tick may make room for it.
     fn push(&mut self, row: TickRow)
-        ensures rows { self.new.rows ≡ slice_set self.old.rows ((self.old.newest + 31) % 32) row }
-        ensures whole { length self.old.rows ≡ 32 }
+        ensures rows { self.new.rows ≡ slice_set self.old.rows self.new.newest row }
         ensures newest { self.new.newest ≡ (self.old.newest + 31) % 32 }
         ensures kept { self.new.kept ≡ min (self.old.kept + 1) self.old.delay }
         ensures same { self.new.delay ≡ self.old.delay }
@@ -94,8 +90,8 @@ impl LimitBook {
             return false;
         }
         let mut moves = self.current.moves as u64 + 1;
-        for i in 0..self.kept {
-            let row = self.rows[(self.newest + i) % 32];
+        let (older, newer) = self.rows.split_at(self.newest);
+        for row in newer.iter().chain(older).take(self.kept) {
             if 100 * moves > alpha as u64 * row.present as u64 {
                 return false;
             }
