@@ -1,14 +1,13 @@
-// The same calls on a carrier and on a plain list.
+// The same calls on a carrier and on what it means.
 ghost use Rattle.std.specs.Prelude.{◌≡◌};
 
-use crate::list;
-use crate::list::{Rule, Waiting, digest};
+use crate::plain::Plain;
 use carrier::courier::hand_over;
 use carrier::interface::Carrier;
 use carrier::message::{Held, Post};
 use carrier::owed::Receiver;
 use stations::Stations;
-use std::alloc::{AllocError, Global};
+use std::alloc::AllocError;
 
 // A station that only says what it got.
 #[derive(Clone, Copy)]
@@ -37,13 +36,6 @@ fn roll(seed: &mut u64) -> u64 {
     *seed >> 33
 }
 
-fn told(held: Option<Held<u32>>) -> Option<u64> {
-    match held {
-        Some(h) => Some(digest(h.from, h.content, h.sent)),
-        None => None,
-    }
-}
-
 // A message with a number that may wait already, and few receivers or none.
 fn message(seed: &mut u64, turn: u32) -> Post<u32> {
     let mut to = Stations::none();
@@ -63,63 +55,91 @@ fn message(seed: &mut u64, turn: u32) -> Post<u32> {
     Post { number, held, to }
 }
 
-// One call, on both; answers whether they agree.
-fn turn<C: Carrier<u32>>(
-    carrier: &mut C,
-    list: &mut Vec<Waiting>,
-    rule: Rule,
-    seed: &mut u64,
-    n: u32,
-) -> Result<bool, AllocError> {
+// A call of a carrier.
+#[derive(Clone, Copy)]
+enum Call {
+    Post(Post<u32>),
+    HandOver(u32, u8),
+    Look(u32, u8),
+    RoomTwo(Post<u32>, Post<u32>),
+    Oldest,
+    Clear,
+    DropFor(u8),
+}
+
+// The call of a turn.
+fn draw(seed: &mut u64, turn: u32) -> Call {
     let station = (roll(seed) % 16) as u8;
-    let number = n.wrapping_sub((roll(seed) % 8) as u32);
+    let number = turn.wrapping_sub((roll(seed) % 8) as u32);
     match roll(seed) % 16 {
-        0..=5 => {
-            let item = message(seed, n);
-            let fits = list::fits(list, rule, &item);
-            let posted = carrier.post(&item).is_ok();
-            if fits {
-                list::post(list, &item)?;
-            }
-            Ok(posted == fits)
-        }
-        6..=9 => {
-            let expected = list::found(list, number, station);
-            list::take(list, number, station);
-            Ok(told(hand_over(carrier, number, station, &mut [Ear; 16])) == expected)
-        }
-        10 | 11 => Ok(told(carrier.look(number, station)) == list::found(list, number, station)),
+        0..=5 => Call::Post(message(seed, turn)),
+        6..=9 => Call::HandOver(number, station),
+        10 | 11 => Call::Look(number, station),
         12 => {
-            let first = message(seed, n);
-            let second = message(seed, n.wrapping_add(1));
-            Ok(carrier.room_two(&first, &second) == list::fit_both(list, rule, &first, &second))
+            let first = message(seed, turn);
+            Call::RoomTwo(first, message(seed, turn.wrapping_add(1)))
         }
-        13 | 14 => Ok(carrier.oldest() == list::oldest(list)),
-        _ => {
-            if roll(seed) % 8 == 0 {
-                carrier.clear();
-                list.clear();
-            } else {
-                carrier.drop_for(station);
-                list::drop_for(list, station);
+        13 | 14 => Call::Oldest,
+        _ if roll(seed) % 8 == 0 => Call::Clear,
+        _ => Call::DropFor(station),
+    }
+}
+
+// What a copy holds, so that two can be compared.
+fn parts(held: Held<u32>) -> (u8, u32, u16) {
+    (held.from, held.content, held.sent)
+}
+
+// One call, on both; answers whether they agree.
+fn agree<C: Carrier<u32>>(
+    carrier: &mut C,
+    plain: &mut Plain,
+    call: &Call,
+) -> Result<bool, AllocError> {
+    match call {
+        Call::Post(item) => {
+            let fits = plain.fits(item);
+            if fits {
+                plain.post(item)?;
             }
+            Ok(carrier.post(item).is_ok() == fits)
+        }
+        Call::HandOver(number, station) => {
+            let handed = hand_over(carrier, *number, *station, &mut [Ear; 16]);
+            Ok(handed.map(parts) == plain.take(*number, *station).map(parts))
+        }
+        Call::Look(number, station) => {
+            let seen = carrier.look(*number, *station);
+            Ok(seen.map(parts) == plain.look(*number, *station).map(parts))
+        }
+        Call::RoomTwo(first, second) => {
+            Ok(carrier.room_two(first, second) == plain.fit_both(first, second))
+        }
+        Call::Oldest => Ok(carrier.oldest() == plain.oldest()),
+        Call::Clear => {
+            carrier.clear();
+            plain.clear();
+            Ok(true)
+        }
+        Call::DropFor(station) => {
+            carrier.drop_for(*station);
+            plain.drop_for(*station);
             Ok(true)
         }
     }
 }
 
-// How many of so many calls a carrier and a list answer differently.
+// How many of so many calls are answered differently by a carrier and by what it means.
 pub(crate) fn play<C: Carrier<u32>>(
-    heap: Global,
     carrier: &mut C,
-    rule: Rule,
+    plain: &mut Plain,
     turns: u32,
 ) -> Result<u32, AllocError> {
-    let mut list = Vec::new(heap);
     let mut seed = 12345u64;
     let mut wrong = 0u32;
-    for n in 0..turns {
-        if !turn(carrier, &mut list, rule, &mut seed, n)? {
+    for turn in 0..turns {
+        let call = draw(&mut seed, turn);
+        if !agree(carrier, plain, &call)? {
             wrong = wrong.wrapping_add(1);
         }
     }
