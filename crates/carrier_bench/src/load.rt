@@ -6,16 +6,17 @@ use carrier::interface::Carrier;
 use carrier::message::{Held, Post};
 use carrier::owed::Receiver;
 use stations::Stations;
+use std::ops::Range;
 use std::time::{Duration, Instant};
 
-// Nanoseconds that the calls of each kind took.
-#[derive(Clone, Copy)]
+// How long the calls of each kind took, and how many copies they met.
+#[derive(Clone, Copy, Default)]
 pub(crate) struct Times {
-    pub(crate) post: u64,
-    pub(crate) look: u64,
-    pub(crate) take: u64,
-    // how many copies were seen and taken
-    pub(crate) met: u64,
+    pub(crate) post: Duration,
+    pub(crate) look: Duration,
+    pub(crate) take: Duration,
+    // seen and taken
+    pub(crate) met: usize,
 }
 
 // A station that counts nothing.
@@ -37,91 +38,70 @@ impl Receiver<u32> for Ear {
     }
 }
 
-// A span of time in nanoseconds.
-fn nanos(span: Duration) -> u64 {
-    span.as_secs()
-        .wrapping_mul(1_000_000_000)
-        .wrapping_add(span.subsec_nanos() as u64)
-}
-
 // A message to one station.
-fn message(n: u64) -> Post<u32> {
+fn message(number: u32) -> Post<u32> {
     let mut to = Stations::none();
     to.insert(0);
     Post {
-        number: (n % 4_000_000_000) as u32,
+        number,
         held: Held {
             from: 1,
             content: 7,
-            sent: (n / 64 % 60_000) as u16,
+            sent: (number / 64 % 60_000) as u16,
         },
         to,
     }
 }
 
-fn posts<C: Carrier<u32>>(carrier: &mut C, from: u64, n: u64) {
-    for i in 0..n {
-        let _ = carrier.post(&message(from.wrapping_add(i)));
+fn posts<C: Carrier<u32>>(carrier: &mut C, numbers: Range<u32>) {
+    for number in numbers {
+        let _ = carrier.post(&message(number));
     }
 }
 
-fn looks<C: Carrier<u32>>(carrier: &C, from: u64, n: u64) -> u64 {
-    let mut seen = 0u64;
-    for i in 0..n {
-        if carrier
-            .look((from.wrapping_add(i) % 4_000_000_000) as u32, 0)
-            .is_some()
-        {
-            seen = seen.wrapping_add(1);
-        }
-    }
-    seen
+fn looks<C: Carrier<u32>>(carrier: &C, numbers: Range<u32>) -> usize {
+    numbers
+        .filter(|number| carrier.look(*number, 0).is_some())
+        .count()
 }
 
-fn takes<C: Carrier<u32>>(carrier: &mut C, from: u64, n: u64) -> u64 {
-    let mut taken = 0u64;
-    for i in 0..n {
-        if hand_over(
-            carrier,
-            (from.wrapping_add(i) % 4_000_000_000) as u32,
-            0,
-            &mut [Ear; 1],
-        )
-        .is_some()
-        {
-            taken = taken.wrapping_add(1);
-        }
-    }
-    taken
+fn takes<C: Carrier<u32>>(carrier: &mut C, numbers: Range<u32>) -> usize {
+    numbers
+        .filter(|number| hand_over(carrier, *number, 0, &mut [Ear; 1]).is_some())
+        .count()
+}
+
+// Does the work, and adds the time that it took.
+fn timed<T: Drop, F: FnOnce() -> T>(
+    rt: &HostRuntime,
+    total: &mut Duration,
+    work: F,
+) -> anyhow::Result<T>
+    requires { F.IsAlwaysCallable work }
+{
+    let start = Instant::now(rt)?;
+    let answer = work();
+    *total = total.saturating_add(start.elapsed(rt)?);
+    Ok(answer)
 }
 
 // Rounds of posts, looks and takes, over a carrier that holds so many copies.
 pub(crate) fn measure<C: Carrier<u32>>(
     rt: &HostRuntime,
     carrier: &mut C,
-    held: u64,
-    calls: u64,
+    held: u32,
+    calls: u32,
 ) -> anyhow::Result<Times> {
-    posts(carrier, 0, held);
-    let mut times = Times {
-        post: 0,
-        look: 0,
-        take: 0,
-        met: 0,
-    };
-    let mut low = 0u64;
-    for _ in 0..calls / 64 {
-        let start = Instant::now(rt)?;
-        posts(carrier, low.wrapping_add(held), 64);
-        times.post = times.post.wrapping_add(nanos(start.elapsed(rt)?));
-        let start = Instant::now(rt)?;
-        let seen = looks(carrier, low, 64);
-        times.look = times.look.wrapping_add(nanos(start.elapsed(rt)?));
-        let start = Instant::now(rt)?;
-        let taken = takes(carrier, low, 64);
-        times.take = times.take.wrapping_add(nanos(start.elapsed(rt)?));
+    posts(carrier, 0..held);
+    let mut times = Times::default();
+    for round in 0..calls / 64 {
+        let low = round.wrapping_mul(64);
+        let high = low.wrapping_add(64);
+        let more = low.wrapping_add(held)..high.wrapping_add(held);
+        timed(rt, &mut times.post, || posts(carrier, more))?;
+        let seen = timed(rt, &mut times.look, || looks(carrier, low..high))?;
+        let taken = timed(rt, &mut times.take, || takes(carrier, low..high))?;
         times.met = times.met.wrapping_add(seen).wrapping_add(taken);
-        low = low.wrapping_add(64);
     }
     Ok(times)
 }
