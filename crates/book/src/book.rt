@@ -14,6 +14,7 @@ pub struct TickRow {
 pub struct LimitBook {
     // the present tick, which has not ended
     current: TickRow,
+    // no VecDeque: a book is of one size, and needs no heap
     rows: [TickRow; 32],
     // the place of the newest row; from there on they are ever older
     newest: usize,

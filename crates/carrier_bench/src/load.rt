@@ -19,7 +19,7 @@ pub(crate) struct Times {
     pub(crate) met: usize,
 }
 
-// A station that counts nothing.
+// A station that says what the copy says; the trial has its own, since no program stands on another.
 #[derive(Clone, Copy)]
 struct Ear;
 

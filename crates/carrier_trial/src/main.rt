@@ -6,22 +6,33 @@ mod play;
 
 use crate::plain::{Plain, Record};
 use crate::play::play;
+use carrier::interface::Carrier;
 use pool::pool::Pool;
 use pool::shared::Shared;
 use rack::entry::Entry;
 use tray::tray::Tray;
 
-fn main(rt: HostRuntime) -> anyhow::Result<()> {
-    let heap = rt.alloc();
-    let mut records = [Shared::vacant(0u32); 6];
-    let mut pool = Pool::new(&mut records);
-    let mut plain = Plain::new(heap, Record::PerMessage, 6);
-    let wrong = play(&mut pool, &mut plain, 40_000)?;
-    println!(rt; "pool of 6: 40000 calls, {wrong} answers differ")?;
-    let mut slots = [Entry::vacant(0u32); 257];
-    let mut tray = Tray::new(&mut slots);
-    let mut plain = Plain::new(heap, Record::PerCopy, 257);
-    let wrong = play(&mut tray, &mut plain, 40_000)?;
-    println!(rt; "tray of 257: 40000 calls, {wrong} answers differ")?;
+const TURNS: u32 = 40_000;
+
+// Plays on a carrier of so many records, and says how it went.
+fn trial<C: Carrier<u32>>(
+    rt: &HostRuntime,
+    make: &str,
+    carrier: &mut C,
+    record: Record,
+    records: usize,
+) -> anyhow::Result<()> {
+    let mut plain = Plain::new(rt.alloc(), record, records);
+    let wrong = play(carrier, &mut plain, TURNS)?;
+    println!(rt; "{make} of {records}: {TURNS} calls, {wrong} answers differ")?;
     Ok(())
+}
+
+fn main(rt: HostRuntime) -> anyhow::Result<()> {
+    let mut memory = [Shared::vacant(0u32); 6];
+    let mut pool = Pool::new(&mut memory);
+    trial(&rt, "pool", &mut pool, Record::PerMessage, 6)?;
+    let mut memory = [Entry::vacant(0u32); 257];
+    let mut tray = Tray::new(&mut memory);
+    trial(&rt, "tray", &mut tray, Record::PerCopy, 257)
 }

@@ -67,7 +67,7 @@ enum Call {
     DropFor(u8),
 }
 
-// The call of a turn.
+// The call of a turn; of sixteen rolls a range is how often a call comes.
 fn draw(seed: &mut u64, turn: u32) -> Call {
     let station = (roll(seed) % 16) as u8;
     let number = turn.wrapping_sub((roll(seed) % 8) as u32);

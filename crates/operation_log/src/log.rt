@@ -1,5 +1,5 @@
 // The log of operations over lent entries.
-ghost use Rattle.std.specs.Prelude.{◌≡◌, ◌+◌, ◌<◌, true, length, if◌then◌else◌, Some, Ok, Err, slice_index, slice_set};
+ghost use Rattle.std.specs.Prelude.{◌≡◌, ◌+◌, ◌<◌, true, length, if◌then◌else◌, Some, Ok, Err, IfOk, slice_index, slice_set};
 ghost use Rattle.settings.specs.Admission.{unless};
 ghost use Rattle.settings.specs.Faults.{outcome};
 ghost use Rattle.settings.specs.declared.fault.SettingsFault.TheVariants.{MemorySize};
@@ -15,7 +15,7 @@ use settings::SettingsFault;
 #[derive(Drop)]
 pub struct OperationLog<'a, R> {
     entries: &'a mut [Entry<R>],
-    // how many entries are opened
+    // how many entries are opened: no Vec, since the memory is lent
     len: usize,
     // the place of each station's latest entry; 0 and no Option where it has none, as in the log of the rules
     latest: [usize; 256],
@@ -25,8 +25,8 @@ impl<'a, R: Copy> OperationLog<'a, R> {
     // A log in which nothing is opened, over memory for 1 to 65,535 entries.
     pub fn new(entries: &'a mut [Entry<R>]) -> Result<OperationLog<'a, R>, SettingsFault>
         ensures value { outcome result log_of ≡ unless (log_size (length entries.old)) MemorySize (Ok new_log) }
-        ensures held { elim result [ Ok l ↦ l.entries.now ≡ entries.old | Err f ↦ Unit {0} ] }
-        ensures named { elim result [ Ok l ↦ l.entries.ghost_name ≡ entries.entry.ghost_name | Err f ↦ Unit {0} ] }
+        ensures held { IfOk result (λ l. l.entries.now ≡ entries.old) }
+        ensures named { IfOk result (λ l. l.entries.ghost_name ≡ entries.entry.ghost_name) }
     {
         if !is_log_size(entries.len()) {
             return Err(SettingsFault::MemorySize);
