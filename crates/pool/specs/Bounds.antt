@@ -9,7 +9,6 @@ use Rattle.carrier.specs.Counts.{under, load, by_copy, by_message, copies, messa
 use Rattle.carrier.proofs.Sums.{total_same}
 use Rattle.carrier.specs.declared.message.Held.{Held}
 use Rattle.rack.specs.Racks.{stored, capacity}
-use Rattle.rack.specs.Stores.{Sound}
 use Rattle.rack.specs.declared.rack.Rack.{Rack}
 use Rattle.rack.proofs.Numbers.{stored_bound}
 use Rattle.pool.specs.declared.shared.Shared.{Shared}
@@ -43,5 +42,5 @@ module _ {X : Type 0} (r : Rack (Shared X)) (whole : Whole r) (kept : Wanted r) 
   unfolding load
   messages_copies = total_same _ _ (2 ^ 32) (λ n l. row n)
 
-pub pooled_bound : {X : Type 0} (r : Rack (Shared X)) → Sound r.store → Whole r → Wanted r → messages (pooled r) ≤ capacity r
-pooled_bound r ok whole kept = omega (arith, messages_copies r whole kept, stored_bound r ok)
+pub pooled_bound : {X : Type 0} (r : Rack (Shared X)) → Whole r → Wanted r → messages (pooled r) ≤ capacity r
+pooled_bound r whole kept = omega (arith, messages_copies r whole kept, stored_bound r)

@@ -1,8 +1,4 @@
 // A pool: one record of the lent memory for each message, with the receivers for which it still waits.
-ghost use Rattle.std.specs.Prelude.{◌≡◌, ◌≤◌, true, not, ◌||◌};
-ghost use Rattle.std.specs.List.{prefix_len};
-ghost use Rattle.rack.specs.Entries.{rising, lives, dead, steady};
-ghost use Rattle.rack.specs.Stores.{kept, size};
 ghost use Rattle.pool.specs.Meaning.{Whole, Wanted};
 
 use crate::shared::Shared;
@@ -14,11 +10,6 @@ pub mod calls;
 #[derive(Drop)]
 pub struct Pool<'a, B> {
     rack: Rack<'a, Shared<B>>,
-    ghost within: { rack.store.len ≤ size rack.store },
-    ghost order: { rising 0 (kept rack.store) ≡ true },
-    ghost count: { rack.store.live ≡ lives (kept rack.store) },
-    ghost front: { rack.store.first ≡ prefix_len dead (kept rack.store) },
-    ghost ticks: { (not rack.store.steady || steady 0 (kept rack.store)) ≡ true },
     ghost whole: { Whole rack },
     ghost wanted: { Wanted rack },
 }

@@ -6,7 +6,9 @@ use Rattle.std.proofs.lemmas.Bool.Decides.{nat_tests}
 use Rattle.carrier.specs.Waits.{at, same, nothing}
 use Rattle.carrier.specs.declared.message.Held.{Held}
 use Rattle.rack.specs.declared.entry.Entry.{Entry}
-use Rattle.rack.specs.Entries.{key_of, held_under, waiting, trimmed_held, sifted, rising}
+use Rattle.rack.specs.Entries.{key_of, held_under, waiting, changed, trimmed_held, sifted, rising}
+use Rattle.rack.specs.declared.rack.Rack.{Rack}
+use Rattle.rack.specs.Racks.{kept, stored}
 use Rattle.rack.proofs.Sifting.{sifted_held}
 
 same_key : (n p m q : ℕ) → p < 256 → q < 256 → eqb (key_of n p) (key_of m q) ≡ same n p m q
@@ -50,3 +52,19 @@ module _ {X : Type 0} where
 
   pub waiting_none : waiting {X = X} [] ≡ nothing
   waiting_none = fun_ext (λ n. fun_ext (nowhere n))
+
+-- what a rack holds is held under its key
+pub stored_under : {X : Type 0} (r : Rack X) (n q : ℕ) → q < 256 → stored r n q ≡ held_under (kept r) (key_of n q)
+unfolding stored
+stored_under r n q l = waiting_at (kept r) n q l
+
+-- one copy changed under its key
+pub changed_at : {X : Type 0} (r : Rack X) (es : List (Entry X)) (k n q : ℕ) (c : Option X) → q < 256 → k ≡ key_of n q
+    → ((j : ℕ) → held_under es j ≡ cond (eqb j k) (changed c (held_under (kept r) k)) (held_under (kept r) j))
+    → waiting es ≡ at n q (changed c (stored r n q)) (stored r)
+unfolding stored
+changed_at r es k n q c l e h =
+    waiting_changed (kept r) es n q _ l (λ j.
+    h j
+    ∙ ap (λ (m : ℕ). cond (eqb j m) (changed c (held_under (kept r) m)) (held_under (kept r) j)) e
+    ∙ ap (λ o. cond (eqb j (key_of n q)) (changed c o) (held_under (kept r) j)) (sym (stored_under r n q l)))

@@ -5,6 +5,6 @@ pub mod Keys
 pub mod Ticks
 pub mod Counts
 pub mod Searching
-pub mod Shifting
-pub mod Keeping
 pub mod Numbers
+pub mod Keeping
+pub mod Shifting

@@ -1,19 +1,18 @@
 -- Whether a copy is held under a number, for any station, and how many copies a rack holds at most.
-use Rattle.std.proofs.Common.{◌≡◌, ℕ, ◌+◌, ◌-◌, ◌^◌, ◌<◌, ◌≤◌, Bool, true, false, cond, not, ◌&&◌, ◌||◌, eqb, ltb, List, [], ◌∷◌, length, get_or, take, drop, is_some, Some, None, sym, refl, ap, ◌∙◌, ⊎_elim, one-add, arith}
-use Rattle.std.specs.List.{prefix_len}
-use Rattle.std.proofs.lemmas.Bool.{and_parts, and_from, and_left, or_parts, or_left, ltb-true, ltb-false, lt-ltb, le-ltb, eq-eqb, ne_eqb, not_from_true, not_from_false, cond-true, cases_Bool}
+use Rattle.std.proofs.Common.{◌≡◌, ℕ, ◌+◌, ◌-◌, ◌^◌, ◌<◌, ◌≤◌, Bool, true, false, cond, not, ◌&&◌, ◌||◌, eqb, ltb, List, [], ◌∷◌, drop, is_some, Some, None, sym, refl, ap, ◌∙◌, ⊎_elim, one-add, arith}
+use Rattle.std.specs.List.{prefix_len, list_any, take_while}
+use Rattle.std.proofs.lemmas.List.{length-take-le}
+use Rattle.std.proofs.lemmas.Bool.{and_parts, and_from, or_parts, ltb-true, ltb-false, eq-eqb, ne_eqb, not_from_true, not_from_false, cond-true, cases_Bool}
 use Rattle.stations.specs.Members.{how_many}
 use Rattle.stations.proofs.Counting.{how_many_none, how_many_some}
 use Rattle.carrier.specs.Counts.{copies, under}
 use Rattle.rack.specs.declared.entry.Entry.{Entry}
 use Rattle.rack.specs.declared.rack.Rack.{Rack}
-use Rattle.rack.specs.Entries.{key_of, held_under, waiting, rising, before, busy}
-use Rattle.rack.specs.Racks.{stored, capacity}
-use Rattle.rack.specs.Stores.{kept, Sound}
+use Rattle.rack.specs.Entries.{key_of, held_under, waiting, rising, before, busy, live}
+use Rattle.rack.specs.Racks.{kept, stored, capacity}
 use Rattle.rack.proofs.Order.{rising_parts, rising_at, held_other, held_below}
 use Rattle.rack.proofs.Keys.{waiting_at}
 use Rattle.rack.proofs.Counts.{copies_lives}
-use Rattle.rack.proofs.Searching.{in_use, from_place}
 use Rattle.rack.proofs.Sifting.{lives_le}
 
 module _ {X : Type 0} where
@@ -76,23 +75,16 @@ module _ {X : Type 0} where
       f ∙ sym (not_from_true _ (eq-eqb _ 0 none)))
       (cases_Bool (busy (b + 256) ds))
 
-  -- one more record of a run of dead ones
-  module _ (xs : List (Entry X)) (n : ℕ) (within : n ≤ length xs) (c i : ℕ) (x : Entry X) (h : i < n) (g : x ≡ get_or xs i x) where
-    pub busy_past : c ≤ x.key → busy c (drop i (take n xs)) ≡ false
-    busy_past l = ap (busy c) (from_place xs n within i x h g) ∙ and_left _ _ (le-ltb _ c l)
-
-    pub busy_live : x.key < c → x.live ≡ true → busy c (drop i (take n xs)) ≡ true
-    busy_live l t = ap (busy c) (from_place xs n within i x h g) ∙ and_from _ _ (lt-ltb _ c l) (or_left _ _ t)
-
-    pub busy_more : x.key < c → x.live ≡ false → busy c (drop i (take n xs)) ≡ busy c (drop (i + 1) (take n xs))
-    busy_more l f =
-        ap (busy c) (from_place xs n within i x h g)
-        ∙ ap (λ (z : Bool). z && (x.live || busy c (drop (i + 1) (take n xs)))) (lt-ltb _ c l)
-        ∙ ap (λ (z : Bool). z || busy c (drop (i + 1) (take n xs))) f
+-- among the records before the first whose key is c or above
+pub busy_taken : {X : Type 0} (c : ℕ) (es : List (Entry X)) → busy c es ≡ list_any live (take_while (before c) es)
+busy_taken c [] = refl
+busy_taken c (e ∷ es) =
+    ⊎_elim
+    (λ t. rw t (rw one-add (ap (λ (z : Bool). e.live || z) (busy_taken c es))))
+    (λ f. rw f)
+    (cases_Bool (before c e))
 
 -- a rack holds no more copies than it has records
-pub stored_bound : {X : Type 0} (r : Rack X) → Sound r.store → copies (stored r) ≤ capacity r
+pub stored_bound : {X : Type 0} (r : Rack X) → copies (stored r) ≤ capacity r
 unfolding stored capacity
-stored_bound r ok =
-    let s = r.store in
-    omega (arith, copies_lives (kept s) ok.order, lives_le (kept s), in_use s.records.now s.len ok.within, ok.within)
+stored_bound r = omega (arith, copies_lives (kept r) r.order, lives_le (kept r), length-take-le r.len r.records.now r.within, r.within)

@@ -1,7 +1,8 @@
 -- Records in rising order: where a key stands, and what is held under it.
-use Rattle.std.proofs.Common.{◌≡◌, ℕ, zero, suc, ◌+◌, ◌^◌, ◌<◌, ◌≤◌, Bool, true, false, cond, ◌&&◌, eqb, leb, List, [], ◌∷◌, ◌++◌, length, get_or, drop, Some, None, Option, sym, refl, ap, ◌∙◌, ⊎_elim, one-add, arith}
+use Rattle.std.proofs.Common.{◌≡◌, ℕ, zero, suc, ◌+◌, ◌^◌, ◌<◌, ◌≤◌, true, cond, ◌&&◌, eqb, leb, List, [], ◌∷◌, ◌++◌, length, get_or, drop, Some, None, Option, sym, refl, ap, ◌∙◌, ⊎_elim, one-add, arith}
 use Rattle.std.specs.List.{prefix_len}
-use Rattle.std.proofs.lemmas.Bool.{and_parts, and_from, and_right, leb-true, le-leb, ltb-true, ltb-false, lt-ltb, ne_eqb, cond-false, cases_Bool, cases_eq}
+use Rattle.std.specs.List.Sorted.{IsNonDecreasingBy}
+use Rattle.std.proofs.lemmas.Bool.{and_parts, and_from, and_right, leb-true, le-leb, ltb-true, ltb-false, ne_eqb, cond-false, cases_Bool, cases_eq}
 use Rattle.carrier.specs.declared.message.Held.{Held}
 use Rattle.rack.specs.declared.entry.Entry.{Entry}
 use Rattle.rack.specs.Entries.{held_under, rising, before}
@@ -53,28 +54,19 @@ module _ {X : Type 0} where
       (λ f. rw f)
       (cases_Bool (before k y))
 
-  key_past : (b i : ℕ) (es : List (Entry X)) (x : Entry X) → rising b es ≡ true → i < length es → x ≡ get_or es i x → b ≤ x.key
-  key_past b i [] x r l g = absurd (omega arith)
-  key_past b zero (y ∷ es) x r l g = omega (arith, (rising_parts b y es r).0, ap (λ (z : Entry X). z.key) g)
-  key_past b (suc i) (y ∷ es) x r l g =
-      let p = rising_parts b y es r in omega (arith, p.0, key_past (y.key + 1) i es x p.1 (omega arith) g)
+  key_past : (b i : ℕ) (es : List (Entry X)) (d : Entry X) → rising b es ≡ true → i < length es → b ≤ (get_or es i d).key
+  key_past b i [] d r l = absurd (omega arith)
+  key_past b zero (y ∷ es) d r l = (rising_parts b y es r).0
+  key_past b (suc i) (y ∷ es) d r l =
+      let p = rising_parts b y es r in omega (arith, p.0, key_past (y.key + 1) i es d p.1 (omega arith))
 
-  -- in order, whether the record at a place is before the key says on which side of it the key stands
-  pub leading_past : (b k i : ℕ) (es : List (Entry X)) (x : Entry X) → rising b es ≡ true → i < length es → x ≡ get_or es i x → x.key < k
-      → i < prefix_len (before k) es
-  leading_past b k i [] x r l g h = absurd (omega arith)
-  leading_past b k zero (y ∷ es) x r l g h = rw (lt-ltb y.key k (omega (arith, ap (λ (z : Entry X). z.key) g))) (omega arith)
-  leading_past b k (suc i) (y ∷ es) x r l g h =
-      let p = rising_parts b y es r in
-      let more = leading_past (y.key + 1) k i es x p.1 (omega arith) g h in
-      rw (lt-ltb y.key k (omega (arith, key_past (y.key + 1) i es x p.1 (omega arith) g))) (omega (arith, more))
-
-  pub leading_not : (p : Entry X → Bool) (i : ℕ) (es : List (Entry X)) (x : Entry X) → i < length es → x ≡ get_or es i x → p x ≡ false → prefix_len p es ≤ i
-  leading_not p i [] x l g f = absurd (omega arith)
-  leading_not p zero (y ∷ es) x l g f = rw (ap p (sym g) ∙ f) (omega arith)
-  leading_not p (suc i) (y ∷ es) x l g f =
-      let more = leading_not p i es x (omega arith) g f in
-      ⊎_elim (λ t. rw t (omega (arith, more))) (λ t. rw t (omega arith)) (cases_Bool (p y))
+  -- keys never fall
+  pub rising_sorted : (b : ℕ) (es : List (Entry X)) → rising b es ≡ true → IsNonDecreasingBy (λ (e : Entry X). e.key) es
+  rising_sorted b [] r i j d le lt = absurd (omega arith)
+  rising_sorted b (y ∷ es) r zero zero d le lt = omega arith
+  rising_sorted b (y ∷ es) r zero (suc j) d le lt = omega (arith, key_past (y.key + 1) j es d (rising_parts b y es r).1 (omega arith))
+  rising_sorted b (y ∷ es) r (suc i) zero d le lt = absurd (omega arith)
+  rising_sorted b (y ∷ es) r (suc i) (suc j) d le lt = rising_sorted (y.key + 1) es (rising_parts b y es r).1 i j d (omega arith) (omega arith)
 
   mid_past : (b : ℕ) (ls : List (Entry X)) (x : Entry X) (ds : List (Entry X)) → rising b (ls ++ x ∷ ds) ≡ true → b ≤ x.key
   mid_past b [] x ds r = (rising_parts b x ds r).0

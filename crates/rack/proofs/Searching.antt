@@ -1,15 +1,21 @@
--- What a search among the first n records finds.
-use Rattle.std.proofs.Common.{◌≡◌, ℕ, ◌+◌, ◌^◌, ◌<◌, ◌≤◌, Bool, true, false, cond, ◌&&◌, ◌||◌, eqb, List, [], ◌∷◌, ◌++◌, length, get_or, take, drop, Some, None, Option, sym, refl, ap, ◌∙◌, ⊎_elim, one-add, arith}
+-- Where a key stands among records in rising order, and what is found there.
+use Rattle.std.proofs.Common.{◌≡◌, ℕ, ◌+◌, ◌^◌, ◌<◌, ◌≤◌, Bool, true, false, cond, ◌&&◌, ◌||◌, eqb, List, [], ◌∷◌, ◌++◌, length, get_or, take, drop, Some, None, sym, refl, ap, ◌∙◌, ⊎_elim, one-add, arith}
 use Rattle.std.specs.List.{prefix_len}
-use Rattle.std.proofs.lemmas.List.{length-take-le, get_or-take, drop_more, drop_all, take-append-drop}
-use Rattle.std.proofs.lemmas.List.Sums.{prefix_len-le-length}
-use Rattle.std.proofs.lemmas.Bool.{or_left, or_from, le-ltb, ltb-true, eq-eqb, ne_eqb, cond-true, cond-false, not_from_true, not_from_false, cases_Bool, cases_eq}
-use Rattle.carrier.specs.Counts.{earlier}
-use Rattle.carrier.specs.declared.message.Held.{Held}
+use Rattle.std.specs.List.Sorted.{IsPartitionPoint}
+use Rattle.std.proofs.lemmas.List.{drop_more, drop_all, take-append-drop}
+use Rattle.std.proofs.lemmas.List.Sums.{prefix_len_is}
+use Rattle.std.proofs.lemmas.Bool.{or_from, ltb-true, eq-eqb, ne_eqb, cases_Bool, cases_eq}
 use Rattle.rack.specs.declared.entry.Entry.{Entry}
-use Rattle.rack.specs.Entries.{held_under, rising, before, dead, keyed, sent_of, soonest}
-use Rattle.rack.proofs.Order.{rising_parts, rising_at, held_at, held_other, held_below, leading_past, leading_not}
-use Rattle.rack.proofs.Ticks.{earlier_assoc}
+use Rattle.rack.specs.Entries.{held_under, rising, before, keyed}
+use Rattle.rack.proofs.Order.{rising_parts, rising_at, held_at, held_below}
+
+-- where those that pass stand in front of the others, the place between them is how many are in front
+pub point_is : {A : Type 0} (p : A → Bool) (xs : List A) (i : ℕ) → i ≤ length xs → IsPartitionPoint (λ y. p y ≡ true) (λ y. p y ≡ false) xs i → i ≡ prefix_len p xs
+point_is p [] i l h = omega arith
+point_is p (x ∷ xs) i l h = sym (prefix_len_is p (x ∷ xs) i x l (λ k m. h.0 k x (omega arith) m) (λ m. h.1 i x (omega arith) m))
+
+pub same_test : (a b : ℕ) → eqb a b ≡ eqb b a
+same_test a b = ⊎_elim (λ q. eq-eqb a b q ∙ sym (eq-eqb b a (sym q))) (λ n. ne_eqb a b n ∙ sym (ne_eqb b a (λ q. n (sym q)))) (cases_eq a b)
 
 keyed_at : {X : Type 0} (k : ℕ) (es : List (Entry X)) → keyed k es ≡ keyed k (drop (prefix_len (before k) es) es)
 keyed_at k [] = refl
@@ -25,87 +31,46 @@ keyed_below b k (e ∷ es) r h =
     let p = rising_parts b e es r in
     or_from _ _ (ne_eqb k e.key (λ q. omega (arith, q, p.0))) (keyed_below (e.key + 1) k es p.1 (omega (arith, p.0)))
 
-module _ {X : Type 0} (xs : List (Entry X)) (n : ℕ) (within : n ≤ length xs) where
-  pub in_use : length (take n xs) ≡ n
-  in_use = length-take-le n xs within
-
-  pub read_in_use : (i : ℕ) (x : Entry X) → i < n → x ≡ get_or xs i x → x ≡ get_or (take n xs) i x
-  read_in_use i x h g = g ∙ sym (get_or-take n xs i x h)
-
-  pub place_within : (p : Entry X → Bool) → prefix_len p (take n xs) ≤ n
-  place_within p = omega (arith, prefix_len-le-length p (take n xs), in_use)
-
+module _ {X : Type 0} (es : List (Entry X)) where
   -- the records from a place on
-  pub from_place : (i : ℕ) (x : Entry X) → i < n → x ≡ get_or xs i x → drop i (take n xs) ≡ x ∷ drop (i + 1) (take n xs)
-  from_place i x h g = drop_more (take n xs) i x (omega (arith, in_use)) ∙ ap (λ z. z ∷ drop (i + 1) (take n xs)) (sym (read_in_use i x h g))
-
-  pub none_from : (i : ℕ) → n ≤ i → drop i (take n xs) ≡ []
-  none_from i h = drop_all i (take n xs) (omega (arith, in_use))
+  pub from_place : (i : ℕ) (x : Entry X) → i < length es → x ≡ get_or es i x → drop i es ≡ x ∷ drop (i + 1) es
+  from_place i x h g = drop_more es i x h ∙ ap (λ z. z ∷ drop (i + 1) es) (sym g)
 
   -- the records before a place, the one there, and those after it
-  pub around : (i : ℕ) (x : Entry X) → i < n → x ≡ get_or xs i x → take n xs ≡ take i (take n xs) ++ x ∷ drop (i + 1) (take n xs)
-  around i x h g = sym (take-append-drop i (take n xs)) ∙ ap (λ z. take i (take n xs) ++ z) (from_place i x h g)
+  pub around : (i : ℕ) (x : Entry X) → i < length es → x ≡ get_or es i x → es ≡ take i es ++ x ∷ drop (i + 1) es
+  around i x h g = sym (take-append-drop i es) ∙ ap (λ z. take i es ++ z) (from_place i x h g)
 
-  module _ (order : rising 0 (take n xs) ≡ true) (k : ℕ) where
-    pub seek_past : (i : ℕ) (x : Entry X) → i < n → x ≡ get_or xs i x → x.key < k → i + 1 ≤ prefix_len (before k) (take n xs)
-    seek_past i x h g l = omega (arith, leading_past 0 k i (take n xs) x order (omega (arith, in_use)) (read_in_use i x h g) l)
+  module _ (order : rising 0 es ≡ true) (k i : ℕ) (is : i ≡ prefix_len (before k) es) where
+    held_from : held_under es k ≡ held_under (drop i es) k
+    held_from = held_at 0 k es ∙ ap (λ (j : ℕ). held_under (drop j es) k) (sym is)
 
-    pub seek_not : (i : ℕ) (x : Entry X) → i < n → x ≡ get_or xs i x → k ≤ x.key → prefix_len (before k) (take n xs) ≤ i
-    seek_not i x h g l = leading_not (before k) i (take n xs) x (omega (arith, in_use)) (read_in_use i x h g) (le-ltb x.key k l)
+    keyed_from : keyed k es ≡ keyed k (drop i es)
+    keyed_from = keyed_at k es ∙ ap (λ (j : ℕ). keyed k (drop j es)) (sym is)
 
-    module _ (i : ℕ) (is : i ≡ prefix_len (before k) (take n xs)) where
-      held_from : held_under (take n xs) k ≡ held_under (drop i (take n xs)) k
-      held_from = held_at 0 k (take n xs) ∙ ap (λ (j : ℕ). held_under (drop j (take n xs)) k) (sym is)
+    pub look_past : length es ≤ i → held_under es k ≡ None
+    look_past h = held_from ∙ ap (λ l. held_under l k) (drop_all i es h)
 
-      keyed_from : keyed k (take n xs) ≡ keyed k (drop i (take n xs))
-      keyed_from = keyed_at k (take n xs) ∙ ap (λ (j : ℕ). keyed k (drop j (take n xs))) (sym is)
+    pub keyed_past : length es ≤ i → keyed k es ≡ false
+    keyed_past h = keyed_from ∙ ap (keyed k) (drop_all i es h)
 
-      pub look_past : n ≤ i → held_under (take n xs) k ≡ None
-      look_past h = held_from ∙ ap (λ l. held_under l k) (none_from i h)
+    -- the record there, and what rises after it
+    module _ (x : Entry X) (h : i < length es) (g : x ≡ get_or es i x) (small : k < 2 ^ 40) where
+      abbrev rest : List (Entry X)
+      rest = drop (i + 1) es
 
-      -- the record there, and what rises after it
-      after : (x : Entry X) → i < n → x ≡ get_or xs i x → k < 2 ^ 40 → rising k (x ∷ drop (i + 1) (take n xs)) ≡ true
-      after x h g small = ap (rising k) (sym (from_place i x h g) ∙ ap (λ (j : ℕ). drop j (take n xs)) is) ∙ rising_at 0 k (take n xs) order (omega arith)
+      after : (k ≤ x.key) × (rising (x.key + 1) rest ≡ true)
+      after = rising_parts k x rest (ap (rising k) (sym (from_place i x h g) ∙ ap (λ (j : ℕ). drop j es) is) ∙ rising_at 0 k es order (omega arith))
 
-      pub look_here : (x : Entry X) → i < n → x ≡ get_or xs i x → k < 2 ^ 40 → x.key ≡ k → held_under (take n xs) k ≡ cond x.live (Some x.held) None
-      look_here x h g small e =
-          let rest : List (Entry X) = drop (i + 1) (take n xs) in
-          let gone : held_under rest k ≡ None = held_below (x.key + 1) k rest (rising_parts k x rest (after x h g small)).1 (omega arith) in
-          held_from ∙ ap (λ l. held_under l k) (from_place i x h g) ∙ at_first x.live x.held (eqb k x.key) (held_under rest k) (eq-eqb k x.key (sym e)) gone where
-            at_first : (t : Bool) (h : Held X) (q : Bool) (o : Option (Held X)) → q ≡ true → o ≡ None → cond (t && q) (Some h) o ≡ cond t (Some h) None
-            at_first true h q o e n = rw e
-            at_first false h q o e n = n
+      pub look_here : held_under es k ≡ cond (x.live && eqb k x.key) (Some x.held) None
+      look_here =
+          held_from ∙ ap (λ l. held_under l k) (from_place i x h g)
+          ∙ ap (λ o. cond (x.live && eqb k x.key) (Some x.held) o) (held_below (x.key + 1) k rest after.1 (omega (arith, after.0)))
 
-      pub look_other : (x : Entry X) → i < n → x ≡ get_or xs i x → k < 2 ^ 40 → (x.key ≡ k → ⊥) → held_under (take n xs) k ≡ None
-      look_other x h g small ne =
-          let rest : List (Entry X) = drop (i + 1) (take n xs) in
-          let p = rising_parts k x rest (after x h g small) in
-          held_from ∙ ap (λ l. held_under l k) (from_place i x h g) ∙ held_other k x _ (λ q. ne (sym q)) ∙ held_below (x.key + 1) k rest p.1 (omega (arith, p.0))
-
-      pub keyed_past : n ≤ i → keyed k (take n xs) ≡ false
-      keyed_past h = keyed_from ∙ ap (keyed k) (none_from i h)
-
-      pub keyed_here : (x : Entry X) → i < n → x ≡ get_or xs i x → k < 2 ^ 40 → keyed k (take n xs) ≡ eqb x.key k
-      keyed_here x h g small =
-          let rest : List (Entry X) = drop (i + 1) (take n xs) in
-          let p = rising_parts k x rest (after x h g small) in
+      pub keyed_here : keyed k es ≡ eqb x.key k
+      keyed_here =
           keyed_from ∙ ap (keyed k) (from_place i x h g)
-          ∙ ⊎_elim
-          (λ (q : k ≡ x.key). or_left (eqb k x.key) (keyed k rest) (eq-eqb k x.key q) ∙ sym (eq-eqb x.key k (sym q)))
-          (λ ne.
-          or_from (eqb k x.key) (keyed k rest) (ne_eqb k x.key ne) (keyed_below (x.key + 1) k rest p.1 (omega (arith, p.0)))
-          ∙ sym (ne_eqb x.key k (λ q. ne (sym q))))
-          (cases_eq k x.key)
-
-  -- one more record, from a place on
-  pub soonest_more : (i : ℕ) (x : Entry X) (best next : Option ℕ) → i < n → x ≡ get_or xs i x → next ≡ earlier best (sent_of x)
-      → earlier best (soonest (drop i (take n xs))) ≡ earlier next (soonest (drop (i + 1) (take n xs)))
-  soonest_more i x best next h g e =
-      ap (λ l. earlier best (soonest l)) (from_place i x h g) ∙ sym (earlier_assoc best (sent_of x) (soonest (drop (i + 1) (take n xs))))
-      ∙ ap (λ o. earlier o (soonest (drop (i + 1) (take n xs)))) (sym e)
-
-  pub live_here : (i : ℕ) (x : Entry X) → i < n → x ≡ get_or xs i x → x.live ≡ true → prefix_len dead (drop i (take n xs)) ≡ 0
-  live_here i x h g t = ap (prefix_len dead) (from_place i x h g) ∙ cond-false _ _ _ (not_from_true _ t)
-
-  pub dead_here : (i : ℕ) (x : Entry X) → i < n → x ≡ get_or xs i x → x.live ≡ false → prefix_len dead (drop i (take n xs)) ≡ 1 + prefix_len dead (drop (i + 1) (take n xs))
-  dead_here i x h g t = ap (prefix_len dead) (from_place i x h g) ∙ cond-true _ _ _ (not_from_false _ t)
+          ∙ ap (λ (b : Bool). eqb k x.key || b) (keyed_below (x.key + 1) k rest after.1 (omega (arith, after.0)))
+          ∙ or_none (eqb k x.key) ∙ same_test k x.key where
+            or_none : (b : Bool) → (b || false) ≡ b
+            or_none true = refl
+            or_none false = refl

@@ -1,24 +1,14 @@
 -- The earliest tick sent, among records and among what waits.
-use Rattle.std.proofs.Common.{◌≡◌, ℕ, ◌+◌, ◌/◌, ◌%◌, ◌^◌, ◌<◌, ◌≤◌, min, true, eqb, ◌⊎◌, List, [], ◌∷◌, length, get_or, Some, None, Option, sym, refl, ap, ◌∙◌, subst, inl, inr, ⊎_elim, one-add, arith}
-use Rattle.std.specs.List.{prefix_len}
+use Rattle.std.proofs.Common.{◌≡◌, ℕ, ◌+◌, ◌/◌, ◌%◌, ◌^◌, ◌<◌, ◌≤◌, min, true, eqb, ◌⊎◌, List, [], ◌∷◌, length, map, get_or, Some, None, Option, sym, refl, ap, ◌∙◌, subst, inl, inr, ⊎_elim, one-add, arith}
+use Rattle.std.specs.List.{prefix_len, reduce, fold, filter}
 use Rattle.std.proofs.lemmas.Bool.{and_from, and_right, cond-true, cond-false, eq-eqb, cases_Bool, cases_lt}
 use Rattle.carrier.specs.Counts.{earlier, when, earliest}
 use Rattle.carrier.proofs.Earliest.{Above, above_less, earlier_left, Earliest, earliest_is}
 use Rattle.rack.specs.declared.entry.Entry.{Entry}
-use Rattle.rack.specs.Entries.{key_of, held_under, waiting, rising, steady, dead, soonest}
+use Rattle.rack.specs.Entries.{key_of, held_under, waiting, rising, steady, dead, live, soonest}
 use Rattle.rack.proofs.Order.{rising_parts, rising_bound, held_other}
 use Rattle.rack.proofs.Changes.{steady_parts}
 use Rattle.rack.proofs.Keys.{waiting_at}
-
-pub earlier_assoc : (a b c : Option ℕ) → earlier (earlier a b) c ≡ earlier a (earlier b c)
-earlier_assoc None b c = refl
-earlier_assoc (Some a) None c = refl
-earlier_assoc (Some a) (Some b) None = refl
-earlier_assoc (Some a) (Some b) (Some c) = ap Some (omega arith)
-
-pub earlier_none : (o : Option ℕ) → o ≡ earlier o None
-earlier_none None = refl
-earlier_none (Some t) = refl
 
 above_earlier : (t : ℕ) (a b : Option ℕ) → Above t a → Above t b → Above t (earlier a b)
 above_earlier t None b x y = y
@@ -43,7 +33,23 @@ pick s (Some u) t e =
     let m : min s u ≡ t = cc in
     ⊎_elim (λ l. inl (omega arith)) (λ l. inr (ap Some (omega arith))) (cases_lt s u)
 
+-- the least of some ticks, taken one by one
+reduced : (a : ℕ) (xs : List ℕ) → Some (fold min a xs) ≡ earlier (Some a) (reduce min xs)
+reduced a [] = refl
+reduced a (b ∷ xs) = reduced (min a b) xs ∙ earlier_assoc a b (reduce min xs) ∙ ap (earlier (Some a)) (sym (reduced b xs)) where
+  earlier_assoc : (a b : ℕ) (o : Option ℕ) → earlier (Some (min a b)) o ≡ earlier (Some a) (earlier (Some b) o)
+  earlier_assoc a b None = refl
+  earlier_assoc a b (Some c) = ap Some (omega arith)
+
 module _ {X : Type 0} where
+  pub soonest_reduced : (es : List (Entry X)) → soonest es ≡ reduce min (map (λ e. e.held.sent) (filter live es))
+  soonest_reduced [] = refl
+  soonest_reduced (e ∷ es) =
+      ⊎_elim
+      (λ t. rw t (ap (earlier (Some e.held.sent)) (soonest_reduced es) ∙ sym (reduced e.held.sent (map (λ e. e.held.sent) (filter live es)))))
+      (λ t. rw t (soonest_reduced es))
+      (cases_Bool e.live)
+
   -- all are dead
   pub soonest_none : (es : List (Entry X)) → length es ≤ prefix_len dead es → soonest es ≡ None
   soonest_none [] h = refl

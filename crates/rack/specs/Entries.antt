@@ -1,5 +1,5 @@
 -- What records in rising order hold.
-use Rattle.std.specs.Prelude.{ℕ, ◌+◌, ◌*◌, ◌%◌, ◌^◌, Bool, true, false, cond, not, ◌&&◌, ◌||◌, List, [], ◌∷◌, Some, None, Option, ◌==◌, nat_le, nat_lt}
+use Rattle.std.specs.Prelude.{◌≡◌, ℕ, ◌≤◌, length, ◌+◌, ◌*◌, ◌%◌, ◌^◌, Bool, true, false, cond, not, ◌&&◌, ◌||◌, List, [], ◌∷◌, Some, None, Option, ◌==◌, nat_le, nat_lt}
 use Rattle.carrier.specs.Waits.{Waits}
 use Rattle.carrier.specs.Counts.{earlier}
 use Rattle.carrier.specs.declared.message.Held.{Held}
@@ -37,6 +37,10 @@ steady b (e ∷ es) = nat_le b e.held.sent && steady e.held.sent es
 abbrev pub last_sent : {X : Type 0} → ℕ → List (Entry X) → ℕ
 last_sent b [] = b
 last_sent b (e ∷ es) = last_sent e.held.sent es
+
+-- a record whose copy still waits
+abbrev pub live : {X : Type 0} → Entry X → Bool
+live e = e.live
 
 -- a record whose copy was taken
 abbrev pub dead : {X : Type 0} → Entry X → Bool
@@ -107,3 +111,9 @@ changed c (Some h) = left_of h c
 abbrev pub changed_entry : {X : Type 0} → Entry X → Option X → Entry X
 changed_entry e None = record { key = e.key; live = false; held = e.held }
 changed_entry e (Some v) = record { key = e.key; live = true; held = with_content v e.held }
+
+-- a copy at this place and tick goes on where the last one ended
+pub record Continues {X : Type 0} (es : List (Entry X)) (i sent : ℕ) : Type 0 where
+  pub end : i ≡ length es
+  pub so_far : steady 0 es ≡ true
+  pub next : last_sent 0 es ≤ sent

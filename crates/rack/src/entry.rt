@@ -1,4 +1,7 @@
 // One record of the lent memory.
+ghost use Rattle.std.specs.Prelude.{◌≡◌};
+ghost use Rattle.rack.specs.Entries.{changed_entry};
+
 use carrier::message::Held;
 
 // What is held under a key; a record that is not live waits to be squeezed out.
@@ -21,5 +24,16 @@ impl<V: Copy> Entry<V> {
                 sent: 0,
             },
         }
+    }
+
+    // The record with another content, or dead.
+    pub(crate) fn changed(mut self, content: Option<V>) -> Entry<V>
+        ensures { result ≡ changed_entry self content }
+    {
+        self.live = content.is_some();
+        if let Some(content) = content {
+            self.held.content = content;
+        }
+        self
     }
 }

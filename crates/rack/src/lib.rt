@@ -2,8 +2,8 @@
 #![tactic(auto)]
 
 pub mod entry;
+mod key;
 pub mod rack;
 mod search;
 mod shift;
 pub mod sift;
-mod store;

@@ -3,7 +3,6 @@ ghost use Rattle.std.specs.Prelude.{◌≡◌, ℕ, ◌≤◌, length, take, Som
 ghost use Rattle.rack.specs.Entries.{rest_of, sifted};
 
 use crate::entry::Entry;
-use carrier::message::Held;
 
 // A rule that changes contents by station, or removes copies.
 pub trait Trim<V: Copy> {
@@ -27,35 +26,26 @@ impl<V: Copy> Trim<V> for KeepAll {
 }
 
 // What the rule leaves of a record.
-fn rest<V: Copy, T: Trim<V>>(entry: Entry<V>, rule: &T) -> Option<Entry<V>>
+fn rest<V: Copy, T: Trim<V>>(mut entry: Entry<V>, rule: &T) -> Option<Entry<V>>
     ensures { result ≡ rest_of (T.trimmed rule.now) entry }
 {
-    let Entry { key, live, held } = entry;
-    if !live {
+    if !entry.live {
         return None;
     }
-    let content = rule.trim((key % 256) as u8, &held.content)?;
-    Some(Entry {
-        key,
-        live: true,
-        held: Held {
-            from: held.from,
-            content,
-            sent: held.sent,
-        },
-    })
+    let station = (entry.key % 256) as u8;
+    entry.held.content = rule.trim(station, &entry.held.content)?;
+    Some(entry)
 }
 
-// Keeps what the rule leaves of the first records, and answers how many there are.
-pub(crate) fn sift_in<V: Copy, T: Trim<V>>(records: &mut [Entry<V>], len: usize, rule: &T) -> usize
-    requires { len ≤ length records.old }
-    ensures kept { take result records.new ≡ sifted (T.trimmed rule.now) (take len records.old) }
-    ensures within { result ≤ len }
+// Keeps what the rule leaves of the records in front, and answers how many there are.
+pub(crate) fn sift_in<V: Copy, T: Trim<V>>(records: &mut [Entry<V>], rule: &T) -> usize
+    ensures kept { take result records.new ≡ sifted (T.trimmed rule.now) records.old }
+    ensures within { result ≤ length records.old }
 {
     let mut count = 0;
-    for i in 0..len {
-        let entry = records[i];
-        if let Some(left) = rest(entry, rule) {
+    // by place: what is left is written among the records that are still read
+    for i in 0..records.len() {
+        if let Some(left) = rest(records[i], rule) {
             records[count] = left;
             count += 1;
         }

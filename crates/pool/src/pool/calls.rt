@@ -60,7 +60,7 @@ impl<'a, B: Copy> Carrier<B> for Pool<'a, B> {
 
     ghost ample = { λ p. 2 ≤ capacity p.rack };
 
-    ghost laws = { record { starts = λ p ps h. room_starts by_message message_cost (capacity p.rack) h ps; shrinks = λ p. room_shrinks by_message message_cost (capacity p.rack); splits = λ p. room_splits by_message message_cost (capacity p.rack); own_numbers = λ p. room_fresh by_message (capacity p.rack); unheard = λ p. room_unheard by_message refl (capacity p.rack); idle = λ p. room_idle by_message (capacity p.rack) (pooled p.rack) (pooled_bound p.rack (record { within = p.within; order = p.order; count = p.count; front = p.front; ticks = p.ticks }) p.whole p.wanted) } };
+    ghost laws = { record { starts = λ p ps h. room_starts by_message message_cost (capacity p.rack) h ps; shrinks = λ p. room_shrinks by_message message_cost (capacity p.rack); splits = λ p. room_splits by_message message_cost (capacity p.rack); own_numbers = λ p. room_fresh by_message (capacity p.rack); unheard = λ p. room_unheard by_message refl (capacity p.rack); idle = λ p. room_idle by_message (capacity p.rack) (pooled p.rack) (pooled_bound p.rack p.whole p.wanted) } };
 
     fn is_ample(&self) -> bool {
         LEAST <= self.rack.capacity()

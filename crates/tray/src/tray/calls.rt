@@ -5,7 +5,6 @@ ghost use Rattle.carrier.specs.Memory.{sized};
 ghost use Rattle.carrier.specs.Waits.{nothing, posted};
 ghost use Rattle.carrier.proofs.Rooms.{copy_cost, room_starts, room_shrinks, room_splits, room_fresh, room_unheard, room_idle};
 ghost use Rattle.rack.specs.Racks.{stored, capacity};
-ghost use Rattle.rack.specs.Stores.{Sound};
 ghost use Rattle.rack.proofs.Numbers.{stored_bound};
 
 use crate::rules::Leaving;
@@ -53,7 +52,7 @@ impl<'a, B: Copy> Carrier<B> for Tray<'a, B> {
 
     ghost ample = { λ t. 257 ≤ capacity t.rack };
 
-    ghost laws = { record { starts = λ t ps h. room_starts by_copy copy_cost (capacity t.rack) h ps; shrinks = λ t. room_shrinks by_copy copy_cost (capacity t.rack); splits = λ t. room_splits by_copy copy_cost (capacity t.rack); own_numbers = λ t. room_fresh by_copy (capacity t.rack); unheard = λ t. room_unheard by_copy refl (capacity t.rack); idle = λ t. room_idle by_copy (capacity t.rack) (stored t.rack) (stored_bound t.rack (record { within = t.within; order = t.order; count = t.count; front = t.front; ticks = t.ticks })) } };
+    ghost laws = { record { starts = λ t ps h. room_starts by_copy copy_cost (capacity t.rack) h ps; shrinks = λ t. room_shrinks by_copy copy_cost (capacity t.rack); splits = λ t. room_splits by_copy copy_cost (capacity t.rack); own_numbers = λ t. room_fresh by_copy (capacity t.rack); unheard = λ t. room_unheard by_copy refl (capacity t.rack); idle = λ t. room_idle by_copy (capacity t.rack) (stored t.rack) (stored_bound t.rack) } };
 
     fn is_ample(&self) -> bool {
         LEAST <= self.rack.capacity()
@@ -126,9 +125,7 @@ impl<'a, B: Copy> Carrier<B> for Tray<'a, B> {
 
 // Holds a copy for each receiver of a message that fits.
 fn fill<B: Copy>(rack: &mut Rack<B>, item: &Post<B>)
-    requires sound { Sound rack.old.store }
-    requires fits { fits by_copy (capacity rack.old) (stored rack.old) (item.now ∷ []) ≡ true }
-    ensures sound { Sound rack.new.store }
+    requires { fits by_copy (capacity rack.old) (stored rack.old) (item.now ∷ []) ≡ true }
     ensures after { stored rack.new ≡ posted item.now (stored rack.old) }
     ensures same { capacity rack.new ≡ capacity rack.old }
 {

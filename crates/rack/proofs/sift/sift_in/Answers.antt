@@ -1,4 +1,5 @@
-use Rattle.std.proofs.Common.{◌≡◌, ℕ, ◌+◌, ◌<◌, length, take, set, sym, refl, ap, ◌∙◌, subst, arith, rules}
+use Rattle.std.proofs.Common.{ℕ, ◌+◌, ◌<◌, length, set, sym, refl, ap, ◌∙◌, subst, arith, rules}
+use Rattle.std.proofs.lemmas.List.{take_all}
 use Rattle.rack.specs.Entries.{sifted}
 use Rattle.rack.proofs.Sifting.{Sifting, sifted_drops, sifted_keeps, sifting_drops, sifting_keeps}
 use Rattle.rack.proofs.sift.sift_in.Goals as goal
@@ -34,8 +35,7 @@ loop-i-preserved g c =
 
 pub returns : goal.returns
 returns g c =
-    let end : c.loop-i.i ≡ c.args.len = omega arith in
     record {
-      kept = c.loop-i.invariant.done ∙ ap (λ (i : ℕ). sifted (g.T.Trim.trimmed c.args.rule.now) (take i c.args.records.now)) end;
-      within = omega arith;
+      kept = c.loop-i.invariant.done ∙ ap (sifted (g.T.Trim.trimmed c.args.rule.now)) (take_all c.loop-i.i c.args.records.now c.loop-i-test.false);
+      within = omega (arith, c.loop-i.invariant.behind_i, c.loop-i.auto.i-end);
     }

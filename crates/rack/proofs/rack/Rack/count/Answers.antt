@@ -1,17 +1,12 @@
 use Rattle.std.proofs.Common.{sym, ◌∙◌, arith}
-use Rattle.rack.specs.Racks.{stored, capacity}
-use Rattle.rack.specs.Stores.{kept}
+use Rattle.rack.specs.Racks.{kept, stored}
 use Rattle.rack.proofs.Counts.{copies_lives}
-use Rattle.rack.proofs.Searching.{in_use}
-use Rattle.rack.proofs.Sifting.{lives_le}
+use Rattle.rack.proofs.Numbers.{stored_bound}
 use Rattle.rack.proofs.rack.Rack.count.Goals as goal
 
 pub returns : goal.returns
-unfolding stored capacity
+unfolding stored
 returns g c =
     let r = c.args.self.now in
-    let es = kept r.store in
-    record {
-      value = c.live.ensures ∙ c.requires.count ∙ sym (copies_lives es c.requires.order);
-      bound = omega (arith, c.live.ensures, c.requires.count, lives_le es, in_use r.store.records.now r.store.len c.requires.within, c.requires.within);
-    }
+    let value = r.count ∙ sym (copies_lives (kept r) r.order) in
+    record { value = value; bound = omega (arith, value, stored_bound r) }

@@ -1,14 +1,19 @@
-use Rattle.std.proofs.Common.{ℕ, ◌+◌, drop, ap, ◌∙◌}
+use Rattle.std.proofs.Common.{ℕ, ◌+◌, drop, sym, ap, ◌∙◌}
 use Rattle.std.specs.List.{prefix_len}
-use Rattle.rack.specs.Entries.{before, busy}
-use Rattle.rack.specs.Racks.{stored}
-use Rattle.rack.specs.Stores.{kept}
-use Rattle.rack.proofs.Numbers.{busy_under}
+use Rattle.rack.specs.Entries.{busy, before}
+use Rattle.rack.specs.Racks.{kept, stored}
+use Rattle.rack.proofs.Shifting.{part_from}
+use Rattle.rack.proofs.Numbers.{busy_taken, busy_under}
 use Rattle.rack.proofs.rack.Rack.holds.Goals as goal
 
 pub returns : goal.returns
 unfolding stored
 returns g c =
     let r = c.args.self.now in
-    let es = kept r.store in
-    c.busy.ensures ∙ ap (λ (k : ℕ). busy (k + 256) (drop (prefix_len (before k) es) es)) c.key_of-key.ensures ∙ busy_under es c.args.number c.requires.order c.ranges.number.fits
+    let k = c.new-key.result.rank in
+    let i = c.place.result in
+    c.busy_below.ensures
+    ∙ sym (busy_taken (k + 256) _)
+    ∙ ap (busy (k + 256)) (part_from c.used.result.now i ∙ ap (drop i) c.used.ensures.records ∙ ap (λ (n : ℕ). drop n (kept r)) c.place.ensures.value)
+    ∙ ap (λ (n : ℕ). busy (n + 256) (drop (prefix_len (before n) (kept r)) (kept r))) c.new-key.ensures
+    ∙ busy_under (kept r) c.args.number r.order c.ranges.number.fits

@@ -8,11 +8,6 @@ invariant_of-self g c =
     let p = c.args.self.now in
     let t = c.sift.new.self in
     let done = c.sift.ensures in record {
-      within = done.sound.within;
-      order = done.sound.order;
-      count = done.sound.count;
-      front = done.sound.front;
-      ticks = done.sound.ticks;
       whole = dropped_whole p.rack t c.args.station done.after p.whole;
       wanted = dropped_wanted p.rack t c.args.station done.after p.wanted;
     }

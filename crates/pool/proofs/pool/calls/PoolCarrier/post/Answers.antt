@@ -26,11 +26,6 @@ invariant_of-self g c =
     let done = c.insert.ensures in
     let is = done.after ∙ cond-true _ _ _ (posting_spare s.rack p s.whole s.wanted fit some) in
     let many : 0 < receivers p = ⊎_elim (λ z. absurd (some z)) (λ z. omega arith) (cases_eq (receivers p) 0) in record {
-      within = done.sound.within;
-      order = done.sound.order;
-      count = done.sound.count;
-      front = done.sound.front;
-      ticks = done.sound.ticks;
       whole = changed_whole s.rack c.insert.new.self p.number (Some c.share.result) is s.whole;
       wanted = changed_wanted s.rack c.insert.new.self p.number (Some c.share.result) is (ap (λ h. wanted (Some h)) c.share.ensures ∙ lt-ltb 0 _ many) s.wanted;
     }

@@ -11,7 +11,7 @@ pub returns-then-is_empty : goal.returns-then-is_empty
 unfolding receivers
 returns-then-is_empty g c =
     let p = c.args.self.now in
-    let bound = pooled_bound p.rack (record { within = p.within; order = p.order; count = p.count; front = p.front; ticks = p.ticks }) p.whole p.wanted in
+    let bound = pooled_bound p.rack p.whole p.wanted in
     sym (silent_one by_message refl (capacity p.rack) (pooled p.rack) c.args.item.now (eqb-true _ 0 (sym c.is_empty.ensures ∙ c.if-is_empty.true)) bound)
 
 pub returns-then-left-eq0 : goal.returns-then-left-eq0

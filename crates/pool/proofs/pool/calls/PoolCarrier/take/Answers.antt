@@ -25,11 +25,6 @@ invariant_of-self g c =
     let was = sym c.get-message.ensures ∙ c.in-Some-message.is in
     let less = ap (λ x. changed x old) c.without.ensures ∙ ap (changed (lesser q k.content)) was in
     let done = c.change.ensures in record {
-      within = done.sound.within;
-      order = done.sound.order;
-      count = done.sound.count;
-      front = done.sound.front;
-      ticks = done.sound.ticks;
       whole = changed_whole s.rack c.change.new.self c.args.number _ done.after s.whole;
       wanted = changed_wanted s.rack c.change.new.self c.args.number _ done.after (ap wanted less ∙ lesser_wanted k q) s.wanted;
     }

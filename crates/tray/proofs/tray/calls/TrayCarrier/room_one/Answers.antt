@@ -9,7 +9,7 @@ pub returns-then-copies-eq0 : goal.returns-then-copies-eq0
 unfolding receivers
 returns-then-copies-eq0 g c =
     let t = c.args.self.now in
-    let bound = stored_bound t.rack (record { within = t.within; order = t.order; count = t.count; front = t.front; ticks = t.ticks }) in
+    let bound = stored_bound t.rack in
     sym (silent_one by_copy refl (capacity t.rack) (stored t.rack) c.args.item.now (sym c.count-copies.ensures.value ∙ c.if-copies-eq0.true) bound)
 
 pub returns-then-copies-left : goal.returns-then-copies-left

@@ -1,0 +1,100 @@
+// Where a key stands among the records of a rack, and how a place is made for another.
+ghost use Rattle.std.specs.Prelude.{◌≡◌, ℕ, ◌<◌, ◌≤◌, true, false, length, if◌then◌else◌, Some, None, nat_eq};
+ghost use Rattle.std.specs.List.{prefix_len};
+ghost use Rattle.carrier.specs.declared.message.Held.{Held};
+ghost use Rattle.rack.specs.Entries.{held_under, before, keyed, sifted, Continues};
+ghost use Rattle.rack.specs.Racks.{kept, capacity};
+
+use crate::entry::Entry;
+use crate::key::Key;
+use crate::rack::Rack;
+use crate::shift::put_at;
+use crate::sift::{KeepAll, Trim, sift_in};
+use carrier::message::Held;
+
+impl<'a, V: Copy> Rack<'a, V> {
+    // The records in use.
+    pub(super) fn used(&self) -> &[Entry<V>]
+        ensures records { result.now ≡ kept self.now }
+        ensures len { length result.now ≡ self.now.len }
+    {
+        &self.records[..self.len]
+    }
+
+    // How many records come before the key.
+    pub(super) fn place(&self, key: Key) -> usize
+        ensures value { result ≡ prefix_len (before key.rank) (kept self.now) }
+        ensures bound { result ≤ self.now.len }
+    {
+        self.used().partition_point(|entry| entry.key < key.rank)
+    }
+
+    // Whether a record has the key, live or not.
+    fn has_key(&self, key: Key) -> bool
+        ensures { result ≡ keyed key.rank (kept self.now) }
+    {
+        self.used()
+            .get(self.place(key))
+            .is_some_and(|entry| entry.key == key.rank)
+    }
+
+    // Keeps what the rule leaves of each live record, and none that is dead.
+    pub(super) fn squeeze<T: Trim<V>>(&mut self, rule: &T)
+        ensures same { capacity self.new ≡ capacity self.old }
+        ensures after { kept self.new ≡ sifted (T.trimmed rule.now) (kept self.old) }
+        ensures dense { self.new.live ≡ self.new.len }
+    {
+        let left = sift_in(&mut self.records[..self.len], rule);
+        self.len = left;
+        self.live = left;
+        self.first = 0;
+    }
+
+    // Squeezes out what was taken, where no place is left at the end or a record that was taken has the key.
+    pub(super) fn make_way(&mut self, key: Key)
+        requires gone { held_under (kept self.old) key.rank ≡ None }
+        requires spare { self.old.live < capacity self.old }
+        ensures same { capacity self.new ≡ capacity self.old }
+        ensures after { (j : ℕ) → held_under (kept self.new) j ≡ held_under (kept self.old) j }
+        ensures spare { self.new.len < capacity self.new }
+        ensures free { keyed key.rank (kept self.new) ≡ false }
+    {
+        if self.len == self.records.len() || self.has_key(key) {
+            self.squeeze(&KeepAll);
+        }
+    }
+
+    // Whether ticks sent still never fall after one more record at a place.
+    fn continues(&self, i: usize, sent: u16) -> bool
+        ensures { result ≡ true → Continues (kept self.now) i sent }
+    {
+        if !self.timely || i != self.len {
+            return false;
+        }
+        match self.used().last() {
+            Some(last) => last.held.sent <= sent,
+            None => true,
+        }
+    }
+
+    // Adds a record under a key that no record has, where a place is left at the end.
+    pub(super) fn add(&mut self, key: Key, held: Held<V>)
+        requires spare { self.old.len < capacity self.old }
+        requires free { keyed key.rank (kept self.old) ≡ false }
+        ensures same { capacity self.new ≡ capacity self.old }
+        ensures after { (j : ℕ) → held_under (kept self.new) j ≡ (if nat_eq j key.rank then Some held else held_under (kept self.old) j) }
+    {
+        let i = self.place(key);
+        let timely = self.continues(i, held.sent);
+        let entry = Entry {
+            key: key.rank,
+            live: true,
+            held,
+        };
+        put_at(&mut self.records[..=self.len], i, entry);
+        self.len += 1;
+        self.live += 1;
+        self.first = self.first.min(i);
+        self.timely = timely;
+    }
+}
