@@ -21,12 +21,9 @@ pub fn hand_over<B: Copy, C: Carrier<B>, R: Receiver<B>>(
     if station as usize >= stations.len() {
         return None;
     }
-    if carrier.look(number, station).is_none() {
-        return None;
-    }
-    let Ok(owed) = take_owed(carrier, number, station) else {
-        return None;
-    };
+    carrier.look(number, station)?;
+    let owed = take_owed(carrier, number, station).ok()?;
+    // not ok(): it would let go a debt that came back, and that none does is proved here alone
     match owed.apply(stations) {
         Ok(answer) => Some(answer),
         Err(_) => None,

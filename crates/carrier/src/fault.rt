@@ -14,12 +14,12 @@ pub enum CarrierFault {
     NoRoom,
 }
 
+// The refusal as a caller is told of it; whoever knows the place adds it.
 impl From<CarrierFault> for Refusal {
-    ghost from_gives = { λ e r. r ≡ told e };
+    ghost from_gives = { λ f r. r ≡ told f };
 
-    // The refusal as a caller is told of it; whoever knows the place adds it.
-    fn from(e: CarrierFault) -> Refusal {
-        let number = match e {
+    fn from(fault: CarrierFault) -> Refusal {
+        let number = match fault {
             CarrierFault::NotWaiting => 40,
             CarrierFault::NumbersUsedUp => 41,
             CarrierFault::NoRoom => 42,

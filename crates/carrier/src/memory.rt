@@ -8,11 +8,11 @@ use refusals::{Layer, Refusal};
 #[derive(Clone, Copy, PartialEq, Eq, Debug)]
 pub struct TooSmall;
 
-impl TooSmall {
-    // The refusal as a caller is told of it.
-    pub fn refusal(&self) -> Refusal
-        ensures { result ≡ small_told }
-    {
+// The refusal as a caller is told of it.
+impl From<TooSmall> for Refusal {
+    ghost from_gives = { λ _ r. r ≡ small_told };
+
+    fn from(_small: TooSmall) -> Refusal {
         Refusal {
             number: 17,
             layer: Layer::Settings,

@@ -10,9 +10,7 @@ use crate::message::Held;
 
 // What a carrier's `take` asks for: made here only, so no copy leaves a carrier but as one that is owed.
 #[derive(Drop)]
-pub struct Key {
-    made: bool,
-}
+pub struct Key(());
 
 // A copy that was taken, and is owed to its station.
 pub struct Owed<B: Copy> {
@@ -71,10 +69,8 @@ pub fn take_owed<B: Copy, C: Carrier<B>>(
     ensures after { C.waits carrier.new ≡ without number station (C.waits carrier.old) }
     ensures same { C.room carrier.new ≡ C.room carrier.old }
 {
-    match carrier.take(&Key { made: true }, number, station) {
-        Ok(held) => Ok(owe(station, held)),
-        Err(fault) => Err(fault),
-    }
+    let held = carrier.take(&Key(()), number, station)?;
+    Ok(owe(station, held))
 }
 
 impl<B: Copy> Owed<B> {
