@@ -5,12 +5,13 @@ use Rattle.std.proofs.lemmas.List.{take_more_set, drop-set-lt}
 use Rattle.std.proofs.lemmas.Bool.{cond-true}
 use Rattle.std.proofs.lemmas.Bool.Decides.{nat_tests}
 use Rattle.std.proofs.lemmas.Grind.{common_steps}
+use Rattle.std.proofs.lemmas.Option.{slice_get_within}
 use Rattle.stations.specs.Members.{put}
 use Rattle.network.specs.declared.entry.Entry.{Entry}
 use Rattle.operation_log.specs.declared.log.OperationLog.{OperationLog}
 use Rattle.operation_log.specs.Entries.{latest_of, log_of, places, can_open, can_count, counts_may_rise, latest_entry, SameMemory}
 use Rattle.network.specs.Logs.{Log, at_latest}
-use Rattle.operation_log.proofs.Places.{element_in, changed_none, changed_some, put_latest}
+use Rattle.operation_log.proofs.Places.{changed_none, changed_some, put_latest}
 
 module _ {R : Type 0} (l : OperationLog R) where
   -- the lent entries
@@ -35,7 +36,7 @@ module _ {R : Type 0} (l : OperationLog R) where
 
     module _ (e : Entry R) (some : Some e ≡ latest_entry p (log_of l)) where
       opened : (place < l.len) × (place < length lent)
-      opened = let h = simp length-take at (element_in _ _ e (sym some)) in (omega arith, omega arith)
+      opened = let h = simp length-take at (slice_get_within (take l.len lent) place e (sym some)) in (omega arith, omega arith)
 
       pub within : place < length lent
       within = opened.1

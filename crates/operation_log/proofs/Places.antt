@@ -1,37 +1,24 @@
 -- Lists and functions at one place: what stands there, read or changed.
-use Rattle.std.proofs.Common.{◌≡◌, ℕ, zero, suc, ◌<◌, List, [], ◌∷◌, length, set, slice_get, replicate, Some, None, sym, refl, ap, ◌∙◌, arith}
+use Rattle.std.proofs.Common.{◌≡◌, ℕ, zero, suc, ◌<◌, List, [], ◌∷◌, length, set, slice_get, replicate, Some, None, refl, ap, arith}
 use Rattle.std.proofs.lemmas.Grind.{common_steps}
 use Rattle.std.proofs.lemmas.List.{get_or_past}
 use mathlib.Core.Path.{fun_ext}
 use Rattle.std.proofs.lemmas.Bool.Decides.{nat_tests}
-use Rattle.std.proofs.lemmas.Option.{slice_get_within}
 use Rattle.stations.specs.Members.{put}
 use Rattle.operation_log.specs.Entries.{latest_of}
 use Rattle.network.specs.Logs.{changed_at}
-use Rattle.network.specs.Steps.{element}
 
 module _ {A : Type 0} where
-  -- the element at a place is what the slice has there
-  pub element_got : (es : List A) (i : ℕ) → element es i ≡ slice_get es i
-  unfolding element
-  element_got [] i = refl
-  element_got (e ∷ es) zero = refl
-  element_got (e ∷ es) (suc i) = element_got es i
-
-  -- a place that shows an element is one of the list's
-  pub element_in : (es : List A) (i : ℕ) (e : A) → element es i ≡ Some e → i < length es
-  element_in es i e h = slice_get_within es i e (sym (element_got es i) ∙ h)
-
   -- where there is nothing, nothing changes
-  pub changed_none : (f : A → A) (es : List A) (i : ℕ) → element es i ≡ None → changed_at i f es ≡ es
-  unfolding changed_at element
+  pub changed_none : (f : A → A) (es : List A) (i : ℕ) → slice_get es i ≡ None → changed_at i f es ≡ es
+  unfolding changed_at
   changed_none f [] i h = refl
   changed_none f (e ∷ es) zero h = cc
   changed_none f (e ∷ es) (suc i) h = ap (λ l. e ∷ l) (changed_none f es i h)
 
   -- a change is a write of what was read, changed
-  pub changed_some : (f : A → A) (es : List A) (i : ℕ) (e : A) → element es i ≡ Some e → changed_at i f es ≡ set es i (f e)
-  unfolding changed_at element
+  pub changed_some : (f : A → A) (es : List A) (i : ℕ) (e : A) → slice_get es i ≡ Some e → changed_at i f es ≡ set es i (f e)
+  unfolding changed_at
   changed_some f [] i e h = refl
   changed_some f (x ∷ es) zero e h = let same : x ≡ e = cc in ap (λ y. f y ∷ es) same
   changed_some f (x ∷ es) (suc i) e h = ap (λ l. x ∷ l) (changed_some f es i e h)

@@ -1,10 +1,9 @@
 -- What the log's memory shows, and which of its calls are refused.
-use Rattle.std.specs.Prelude.{◌≡◌, ℕ, Bool, true, ◌&&◌, List, length, take, drop, Some, None, Option, nat_le, nat_lt, slice_index}
+use Rattle.std.specs.Prelude.{◌≡◌, ℕ, Bool, true, ◌&&◌, List, length, take, drop, Some, None, Option, nat_le, nat_lt, slice_index, slice_get}
 use Rattle.network.specs.declared.entry.Entry.{Entry}
 use Rattle.operation_log.specs.declared.log.OperationLog.{OperationLog}
 use Rattle.network.specs.Limits.{may_rise}
 use Rattle.network.specs.Logs.{Log}
-use Rattle.network.specs.Steps.{element}
 
 -- memory for 1 to 65,535 entries
 abbrev pub log_size : ℕ → Bool
@@ -22,7 +21,7 @@ module _ {R : Type 0} where
 
   -- p's latest entry
   abbrev pub latest_entry : ℕ → Log R → Option (Entry R)
-  latest_entry p l = element l.entries (l.latest p)
+  latest_entry p l = slice_get l.entries (l.latest p)
 
   -- a reply more can be counted in p's latest entry
   abbrev pub can_count : ℕ → Log R → Bool

@@ -143,7 +143,6 @@ impl<'a, R: Copy> OperationLog<'a, R> {
     }
 
     // The latest entry of p, if there is one.
-    #[tactic(auto, using(crate::proofs::Places::element_got))]
     pub fn latest_entry(&self, p: u8) -> Option<Entry<R>>
         ensures { result ≡ latest_entry p (log_of self.now) }
     {
