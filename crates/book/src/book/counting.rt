@@ -50,7 +50,7 @@ impl LimitBook {
         ensures after { book_of self.new ≡ (if can_note (book_of self.old) then with_move (book_of self.old) else book_of self.old) }
         ensures same { self.new.delay ≡ self.old.delay }
     {
-        // lent here, since a method that returned it would owe a clause on what the loan leaves behind
+        // lent by its field: a method that returned it would owe a clause on what the loan leaves behind
         let row = &mut self.current;
         if row.moves == u32::MAX {
             return false;
