@@ -7,3 +7,4 @@ pub mod interface;
 pub mod memory;
 pub mod message;
 pub mod owed;
+pub mod room;

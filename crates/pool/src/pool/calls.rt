@@ -1,6 +1,6 @@
 // What can be asked of a pool, and done with it.
-ghost use Rattle.std.specs.Prelude.{◌≡◌, ◌+◌, not, length, ◌==◌, ◌≤◌, refl};
-ghost use Rattle.carrier.specs.Counts.{under, messages, by_message, fits};
+ghost use Rattle.std.specs.Prelude.{◌≡◌, length, ◌≤◌, refl};
+ghost use Rattle.carrier.specs.Counts.{by_message, fits};
 ghost use Rattle.carrier.specs.Memory.{sized};
 ghost use Rattle.carrier.specs.Waits.{nothing};
 ghost use Rattle.carrier.proofs.Rooms.{message_cost, room_starts, room_shrinks, room_splits, room_fresh, room_unheard, room_idle};
@@ -15,6 +15,7 @@ use carrier::interface::Carrier;
 use carrier::memory::{TooSmall, enough};
 use carrier::message::{Held, Post};
 use carrier::owed::Key;
+use carrier::room::{Counted, one_fits, two_fit};
 use rack::entry::Entry;
 use rack::rack::Rack;
 
@@ -37,18 +38,28 @@ impl<'a, B: Copy> Pool<'a, B> {
         let rack = Rack::new(records);
         Pool { rack }
     }
+}
 
-    // How many messages may still come.
-    fn left(&self) -> usize
-        ensures { result + messages (pooled self.now.rack) ≡ capacity self.now.rack }
-    {
-        self.rack.capacity() - self.rack.count()
+impl<'a, B: Copy> Counted<B> for Pool<'a, B> {
+    ghost counted = { λ p. pooled p.rack };
+
+    ghost size = { λ p. capacity p.rack };
+
+    ghost cost = { by_message };
+
+    ghost free = { refl };
+
+    ghost held = { λ p. pooled_bound p.rack p.whole p.wanted };
+
+    fn cost(&self, item: &Post<B>) -> usize {
+        usize::from(!item.to.is_empty())
     }
 
-    // Whether a copy waits under the number.
-    fn holds(&self, number: u32) -> bool
-        ensures { result ≡ not (under (pooled self.now.rack) number == 0) }
-    {
+    fn left(&self) -> usize {
+        self.rack.left()
+    }
+
+    fn holds(&self, number: u32) -> bool {
         self.rack.get(number, 0).is_some()
     }
 }
@@ -71,32 +82,11 @@ impl<'a, B: Copy> Carrier<B> for Pool<'a, B> {
     }
 
     fn room_one(&self, item: &Post<B>) -> bool {
-        if item.to.is_empty() {
-            return true;
-        }
-        if self.left() == 0 {
-            return false;
-        }
-        !self.holds(item.number)
+        one_fits(self, item)
     }
 
     fn room_two(&self, first: &Post<B>, second: &Post<B>) -> bool {
-        if first.to.is_empty() {
-            return self.room_one(second);
-        }
-        if second.to.is_empty() {
-            return self.room_one(first);
-        }
-        if self.left() < 2 {
-            return false;
-        }
-        if first.number == second.number {
-            return false;
-        }
-        if self.holds(first.number) {
-            return false;
-        }
-        !self.holds(second.number)
+        two_fit(self, first, second)
     }
 
     fn post(&mut self, item: &Post<B>) -> Result<(), CarrierFault> {

@@ -1,5 +1,5 @@
 // What can be asked of a rack, and done with it.
-ghost use Rattle.std.specs.Prelude.{◌≡◌, ◌≤◌, not, length, if◌then◌else◌, Some, ◌==◌};
+ghost use Rattle.std.specs.Prelude.{◌≡◌, ◌+◌, ◌≤◌, not, length, if◌then◌else◌, Some, ◌==◌};
 ghost use Rattle.carrier.specs.Counts.{copies, under, earliest};
 ghost use Rattle.carrier.specs.Waits.{nothing, at};
 ghost use Rattle.rack.specs.Entries.{changed, trimmed_held};
@@ -43,6 +43,13 @@ impl<'a, V: Copy> Rack<'a, V> {
         ensures bound { result ≤ capacity self.now }
     {
         self.live
+    }
+
+    // How many more copies may be held.
+    pub fn left(&self) -> usize
+        ensures { result + copies (stored self.now) ≡ capacity self.now }
+    {
+        self.capacity() - self.count()
     }
 
     // What is held under a number for a station.

@@ -1,6 +1,6 @@
 // What can be asked of a tray, and done with it.
-ghost use Rattle.std.specs.Prelude.{◌≡◌, ◌+◌, true, [], ◌∷◌, length, ◌≤◌, refl};
-ghost use Rattle.carrier.specs.Counts.{copies, by_copy, fits};
+ghost use Rattle.std.specs.Prelude.{◌≡◌, true, [], ◌∷◌, length, ◌≤◌, refl};
+ghost use Rattle.carrier.specs.Counts.{by_copy, fits};
 ghost use Rattle.carrier.specs.Memory.{sized};
 ghost use Rattle.carrier.specs.Waits.{nothing, posted};
 ghost use Rattle.carrier.proofs.Rooms.{copy_cost, room_starts, room_shrinks, room_splits, room_fresh, room_unheard, room_idle};
@@ -14,6 +14,7 @@ use carrier::interface::Carrier;
 use carrier::memory::{TooSmall, enough};
 use carrier::message::{Held, Post};
 use carrier::owed::Key;
+use carrier::room::{Counted, one_fits, two_fit};
 use rack::entry::Entry;
 use rack::rack::Rack;
 
@@ -36,12 +37,29 @@ impl<'a, B: Copy> Tray<'a, B> {
         let rack = Rack::new(records);
         Tray { rack }
     }
+}
 
-    // How many copies may still come.
-    fn left(&self) -> usize
-        ensures { result + copies (stored self.now.rack) ≡ capacity self.now.rack }
-    {
-        self.rack.capacity() - self.rack.count()
+impl<'a, B: Copy> Counted<B> for Tray<'a, B> {
+    ghost counted = { λ t. stored t.rack };
+
+    ghost size = { λ t. capacity t.rack };
+
+    ghost cost = { by_copy };
+
+    ghost free = { refl };
+
+    ghost held = { λ t. stored_bound t.rack };
+
+    fn cost(&self, item: &Post<B>) -> usize {
+        item.to.count() as usize
+    }
+
+    fn left(&self) -> usize {
+        self.rack.left()
+    }
+
+    fn holds(&self, number: u32) -> bool {
+        self.rack.holds(number)
     }
 }
 
@@ -63,35 +81,11 @@ impl<'a, B: Copy> Carrier<B> for Tray<'a, B> {
     }
 
     fn room_one(&self, item: &Post<B>) -> bool {
-        let copies = item.to.count() as usize;
-        if copies == 0 {
-            return true;
-        }
-        if copies > self.left() {
-            return false;
-        }
-        !self.rack.holds(item.number)
+        one_fits(self, item)
     }
 
     fn room_two(&self, first: &Post<B>, second: &Post<B>) -> bool {
-        let before = first.to.count() as usize;
-        let after = second.to.count() as usize;
-        if before == 0 {
-            return self.room_one(second);
-        }
-        if after == 0 {
-            return self.room_one(first);
-        }
-        if before + after > self.left() {
-            return false;
-        }
-        if first.number == second.number {
-            return false;
-        }
-        if self.rack.holds(first.number) {
-            return false;
-        }
-        !self.rack.holds(second.number)
+        two_fit(self, first, second)
     }
 
     fn post(&mut self, item: &Post<B>) -> Result<(), CarrierFault> {

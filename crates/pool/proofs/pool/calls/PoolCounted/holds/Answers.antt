@@ -1,6 +1,6 @@
 use Rattle.std.proofs.Common.{is_some, ap, ◌∙◌}
 use Rattle.pool.proofs.Messages.{kept_under}
-use Rattle.pool.proofs.pool.Pool.holds.Goals as goal
+use Rattle.pool.proofs.pool.calls.PoolCounted.holds.Goals as goal
 
 pub returns : goal.returns
 returns g c =

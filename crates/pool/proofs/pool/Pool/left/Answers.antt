@@ -1,8 +1,0 @@
-use Rattle.std.proofs.Common.{arith}
-use Rattle.pool.specs.Bounds.{messages_copies}
-use Rattle.pool.proofs.pool.Pool.left.Goals as goal
-
-pub returns : goal.returns
-returns g c =
-    let p = c.args.self.now in
-    omega (arith, messages_copies p.rack p.whole p.wanted, c.capacity.ensures, c.count.ensures.value, c.count.ensures.bound)
