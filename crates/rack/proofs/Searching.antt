@@ -1,18 +1,27 @@
 -- Where a key stands among records in rising order, and what is found there.
 use Rattle.std.proofs.Common.{◌≡◌, ℕ, ◌+◌, ◌^◌, ◌<◌, ◌≤◌, Bool, true, false, cond, ◌&&◌, ◌||◌, eqb, List, [], ◌∷◌, ◌++◌, length, get_or, take, drop, Some, None, sym, refl, ap, ◌∙◌, ⊎_elim, one-add, arith}
 use Rattle.std.specs.List.{prefix_len}
-use Rattle.std.specs.List.Sorted.{IsPartitionPoint}
 use Rattle.std.proofs.lemmas.List.{drop_more, drop_all, take-append-drop}
-use Rattle.std.proofs.lemmas.List.Sums.{prefix_len_is}
-use Rattle.std.proofs.lemmas.Bool.{or_from, ltb-true, eq-eqb, ne_eqb, cases_Bool, cases_eq}
+use Rattle.std.proofs.lemmas.List.Sums.{prefix_len_passes, prefix_len_stops}
+use Rattle.std.proofs.lemmas.Bool.{or_from, ltb-true, ltb-false, eq-eqb, ne_eqb, cases_Bool, cases_eq, cases_lt}
 use Rattle.rack.specs.declared.entry.Entry.{Entry}
 use Rattle.rack.specs.Entries.{held_under, rising, before, keyed}
-use Rattle.rack.proofs.Order.{rising_parts, rising_at, held_at, held_below}
+use Rattle.rack.proofs.Order.{rising_parts, rising_sorted, rising_at, held_at, held_below}
 
--- where those that pass stand in front of the others, the place between them is how many are in front
-pub point_is : {A : Type 0} (p : A → Bool) (xs : List A) (i : ℕ) → i ≤ length xs → IsPartitionPoint (λ y. p y ≡ true) (λ y. p y ≡ false) xs i → i ≡ prefix_len p xs
-point_is p [] i l h = omega arith
-point_is p (x ∷ xs) i l h = sym (prefix_len_is p (x ∷ xs) i x l (λ k m. h.0 k x (omega arith) m) (λ m. h.1 i x (omega arith) m))
+-- in order, whether the record at a place is before a key says on which side of it the key stands
+module _ {X : Type 0} (es : List (Entry X)) (order : rising 0 es ≡ true) (k i : ℕ) (x : Entry X) (h : i < length es) (g : x ≡ get_or es i x) where
+  pub seek_past : x.key < k → i + 1 ≤ prefix_len (before k) es
+  seek_past l = ⊎_elim (λ past. omega arith) (λ not. absurd (by not)) (cases_lt i (prefix_len (before k) es)) where
+    by : prefix_len (before k) es ≤ i → ⊥
+    by not =
+        let n = prefix_len (before k) es in
+        let stops = ltb-false (get_or es n x).key k (prefix_len_stops (before k) es x (omega arith)) in
+        omega (arith, l, stops, rising_sorted 0 es order n i x not h, ap (λ (e : Entry X). e.key) g)
+
+  pub seek_not : k ≤ x.key → prefix_len (before k) es ≤ i
+  seek_not l = ⊎_elim (λ past. absurd (by past)) (λ not. not) (cases_lt i (prefix_len (before k) es)) where
+    by : i < prefix_len (before k) es → ⊥
+    by past = omega (arith, l, ltb-true (get_or es i x).key k (prefix_len_passes (before k) es i x past), ap (λ (e : Entry X). e.key) g)
 
 pub same_test : (a b : ℕ) → eqb a b ≡ eqb b a
 same_test a b = ⊎_elim (λ q. eq-eqb a b q ∙ sym (eq-eqb b a (sym q))) (λ n. ne_eqb a b n ∙ sym (ne_eqb b a (λ q. n (sym q)))) (cases_eq a b)
