@@ -1,5 +1,5 @@
 -- What records in rising order hold.
-use Rattle.std.specs.Prelude.{◌≡◌, ℕ, ◌≤◌, length, ◌+◌, ◌*◌, ◌%◌, ◌^◌, Bool, true, false, cond, not, ◌&&◌, ◌||◌, List, [], ◌∷◌, Some, None, Option, ◌==◌, nat_le, nat_lt}
+use Rattle.std.specs.Prelude.{◌≡◌, ℕ, ◌≤◌, length, ◌+◌, ◌*◌, ◌%◌, ◌^◌, ◌<◌, Bool, true, false, cond, not, ◌&&◌, ◌||◌, List, [], ◌∷◌, Some, None, Option, ◌==◌, nat_le, nat_lt}
 use Rattle.carrier.specs.Waits.{Waits}
 use Rattle.carrier.specs.Counts.{earlier}
 use Rattle.carrier.specs.declared.message.Held.{Held}
@@ -68,6 +68,10 @@ sent_of e = cond e.live (Some e.held.sent) None
 abbrev pub soonest : {X : Type 0} → List (Entry X) → Option ℕ
 soonest [] = None
 soonest (e ∷ es) = earlier (sent_of e) (soonest es)
+
+-- a rule by station and content answers each call as f does
+abbrev pub Follows : {X : Type 0} → (ℕ → X → Option X → Type 0) → (ℕ → X → Option X) → Type 0
+Follows {X} answers f = (q : ℕ) (v : X) (r : Option X) → q < 256 → answers q v r → r ≡ f q v
 
 -- what a copy holds, with another content
 abbrev pub with_content : {X : Type 0} → X → Held X → Held X

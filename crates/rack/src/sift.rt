@@ -1,45 +1,38 @@
 // A pass over the records that keeps, in place and in order, what a rule leaves of each live one.
-ghost use Rattle.std.specs.Prelude.{◌≡◌, ℕ, ◌≤◌, length, take, Some, Option};
-ghost use Rattle.rack.specs.Entries.{rest_of, sifted};
+ghost use Rattle.std.specs.Prelude.{◌≡◌, ℕ, ◌≤◌, length, take, Option};
+ghost use Rattle.rack.specs.Entries.{Follows, rest_of, sifted};
 
 use crate::entry::Entry;
-
-// A rule that changes contents by station, or removes copies.
-pub trait Trim<V: Copy> {
-    // What is left of the content of a copy for a station.
-    ghost trimmed: { Self → ℕ → V → Option V };
-
-    fn trim(&self, station: u8, content: &V) -> Option<V>
-        ensures { result ≡ trimmed self.now station content.now };
-}
-
-// The rule that leaves everything as it is.
-#[derive(Clone, Copy)]
-pub(crate) struct KeepAll;
-
-impl<V: Copy> Trim<V> for KeepAll {
-    ghost trimmed = { λ _ _ v. Some v };
-
-    fn trim(&self, _station: u8, content: &V) -> Option<V> {
-        Some(*content)
-    }
-}
+use carrier::message::Held;
 
 // What the rule leaves of a record.
-fn rest<V: Copy, T: Trim<V>>(mut entry: Entry<V>, rule: &T) -> Option<Entry<V>>
-    ensures { result ≡ rest_of (T.trimmed rule.now) entry }
+fn rest<V: Copy, F: Fn(u8, V) -> Option<V>>(entry: Entry<V>, rule: &F) -> Option<Entry<V>>
+    requires { F.IsAlwaysCallable rule.now }
+    ensures { (f : ℕ → V → Option V) → Follows (F.post rule.now) f → result ≡ rest_of f entry }
 {
-    if !entry.live {
+    let Entry { key, live, held } = entry;
+    if !live {
         return None;
     }
-    let station = (entry.key % 256) as u8;
-    entry.held.content = rule.trim(station, &entry.held.content)?;
-    Some(entry)
+    let content = rule((key % 256) as u8, held.content)?;
+    Some(Entry {
+        key,
+        live: true,
+        held: Held {
+            from: held.from,
+            content,
+            sent: held.sent,
+        },
+    })
 }
 
 // Keeps what the rule leaves of the records in front, and answers how many there are.
-pub(crate) fn sift_in<V: Copy, T: Trim<V>>(records: &mut [Entry<V>], rule: &T) -> usize
-    ensures kept { take result records.new ≡ sifted (T.trimmed rule.now) records.old }
+pub(crate) fn sift_in<V: Copy, F: Fn(u8, V) -> Option<V>>(
+    records: &mut [Entry<V>],
+    rule: &F,
+) -> usize
+    requires { F.IsAlwaysCallable rule.now }
+    ensures kept { (f : ℕ → V → Option V) → Follows (F.post rule.now) f → take result records.new ≡ sifted f records.old }
     ensures within { result ≤ length records.old }
 {
     let mut count = 0;

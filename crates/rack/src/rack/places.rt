@@ -1,15 +1,15 @@
 // Where a key stands among the records of a rack, and how a place is made for another.
-ghost use Rattle.std.specs.Prelude.{◌≡◌, ℕ, ◌<◌, ◌≤◌, true, false, length, if◌then◌else◌, Some, None, nat_eq};
+ghost use Rattle.std.specs.Prelude.{◌≡◌, ℕ, ◌<◌, ◌≤◌, true, false, length, if◌then◌else◌, Some, None, Option, nat_eq};
 ghost use Rattle.std.specs.List.{prefix_len};
 ghost use Rattle.carrier.specs.declared.message.Held.{Held};
-ghost use Rattle.rack.specs.Entries.{held_under, before, keyed, sifted, Continues};
+ghost use Rattle.rack.specs.Entries.{held_under, before, keyed, sifted, Continues, Follows};
 ghost use Rattle.rack.specs.Racks.{kept, capacity};
 
 use crate::entry::Entry;
 use crate::key::Key;
 use crate::rack::Rack;
 use crate::shift::put_at;
-use crate::sift::{KeepAll, Trim, sift_in};
+use crate::sift::sift_in;
 use carrier::message::Held;
 
 impl<'a, V: Copy> Rack<'a, V> {
@@ -51,9 +51,11 @@ impl<'a, V: Copy> Rack<'a, V> {
     }
 
     // Keeps what the rule leaves of each live record, and none that is dead.
-    pub(super) fn squeeze<T: Trim<V>>(&mut self, rule: &T)
+    pub(super) fn squeeze<F: Fn(u8, V) -> Option<V>>(&mut self, rule: &F)
+        requires called { F.IsAlwaysCallable rule.now }
+        requires followed { (f : ℕ → V → Option V) × Follows (F.post rule.now) f }
         ensures same { capacity self.new ≡ capacity self.old }
-        ensures after { kept self.new ≡ sifted (T.trimmed rule.now) (kept self.old) }
+        ensures after { (f : ℕ → V → Option V) → Follows (F.post rule.now) f → kept self.new ≡ sifted f (kept self.old) }
         ensures dense { self.new.live ≡ self.new.len }
     {
         let left = sift_in(&mut self.records[..self.len], rule);
@@ -72,7 +74,7 @@ impl<'a, V: Copy> Rack<'a, V> {
         ensures free { keyed key.rank (kept self.new) ≡ false }
     {
         if self.len == self.records.len() || self.has_key(key) {
-            self.squeeze(&KeepAll);
+            self.squeeze(&|_, content| Some(content));
         }
     }
 

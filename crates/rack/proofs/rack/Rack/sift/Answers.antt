@@ -8,4 +8,4 @@ pub returns-clause-after : goal.returns-clause-after
 unfolding stored
 returns-clause-after g c =
     let r = c.args.self.now in
-    ap waiting c.squeeze.ensures.after ∙ waiting_sifted (g.T.Trim.trimmed c.args.rule.now) (kept r) r.order
+    λ f h. ap waiting (c.squeeze.ensures.after f h) ∙ waiting_sifted f (kept r) r.order

@@ -9,13 +9,14 @@ use Rattle.rack.proofs.rack.Rack.squeeze.Goals as goal
 pub invariant_of-self : goal.invariant_of-self
 invariant_of-self g c =
     let r = c.args.self.now in
+    let f = c.requires.followed.0 in
     let n = c.sift_in-left.result in
     let ys = c.sift_in-left.new.records in
     let long : length ys ≡ r.len = c.sift_in-left.auto.records ∙ length-take-le r.len r.records.now r.within in
     let some : n ≤ length ys = omega (arith, c.sift_in-left.ensures.within, c.sift_in-left.auto.records) in
-    let is : take n (ys ++ drop r.len r.records.now) ≡ sifted (g.T.Trim.trimmed c.args.rule.now) (kept r) = take-append-le n ys _ some ∙ c.sift_in-left.ensures.kept in
-    let left : length (sifted (g.T.Trim.trimmed c.args.rule.now) (kept r)) ≡ n = ap length (sym c.sift_in-left.ensures.kept) ∙ length-take-le n ys some in
-    let s = sifted_sound (g.T.Trim.trimmed c.args.rule.now) (kept r) r.live r.first r.timely (sound r) in
+    let is : take n (ys ++ drop r.len r.records.now) ≡ sifted f (kept r) = take-append-le n ys _ some ∙ (c.sift_in-left.ensures.kept f c.requires.followed.1) in
+    let left : length (sifted f (kept r)) ≡ n = ap length (sym (c.sift_in-left.ensures.kept f c.requires.followed.1)) ∙ length-take-le n ys some in
+    let s = sifted_sound f (kept r) r.live r.first r.timely (sound r) in
     let t = sound_as _ _ _ _ _ _ _ s is (sym left) refl in
     record {
       within = omega (arith, some, long, r.within, length_with r.records.now ys r.len r.within c.sift_in-left.auto.records);
