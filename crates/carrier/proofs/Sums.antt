@@ -5,10 +5,6 @@ use Rattle.stations.specs.Members.{how_many}
 use Rattle.stations.proofs.Counting.{how_many_split}
 use Rattle.carrier.specs.Counts.{total}
 
-pub total_zero : (f : ℕ → ℕ) → total f 0 ≡ 0
-unfolding total
-total_zero f = refl
-
 pub total_same : (f g : ℕ → ℕ) (n : ℕ) → ((k : ℕ) → k < n → f k ≡ g k) → total f n ≡ total g n
 unfolding total
 total_same f g zero h = refl

@@ -146,9 +146,3 @@ module _ {X : Type 0} (r : Rack (Shared X)) (p : Post X) (whole : Whole r) (kept
 pub pooled_none : {X : Type 0} (r : Rack (Shared X)) → stored r ≡ nothing → pooled r ≡ nothing
 unfolding pooled
 pooled_none r e = ap (λ w n q. opened (w n 0) q) e
-
-pub none_whole : {X : Type 0} (r : Rack (Shared X)) → stored r ≡ nothing → Whole r
-none_whole r e n q = ap (λ w. is_some (w n (suc q))) e
-
-pub none_wanted : {X : Type 0} (r : Rack (Shared X)) → stored r ≡ nothing → Wanted r
-none_wanted r e n = ap (λ w. wanted (w n 0)) e

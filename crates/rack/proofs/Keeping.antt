@@ -1,5 +1,5 @@
 -- What a change of one record, a pass over all and one record more leave of what the records in use keep to.
-use Rattle.std.proofs.Common.{◌≡◌, ℕ, ◌+◌, ◌-◌, ◌^◌, ◌<◌, ◌≤◌, min, Bool, true, false, cond, not, ◌&&◌, ◌||◌, eqb, List, [], ◌∷◌, ◌++◌, length, get_or, take, drop, set, is_some, Some, None, Option, sym, refl, ap, ◌∙◌, ⊎_elim, arith}
+use Rattle.std.proofs.Common.{◌≡◌, ℕ, ◌+◌, ◌-◌, ◌^◌, ◌<◌, ◌≤◌, min, Bool, true, false, cond, not, ◌&&◌, ◌||◌, eqb, List, ◌∷◌, ◌++◌, length, get_or, take, drop, set, is_some, Some, None, Option, sym, refl, ap, ◌∙◌, ⊎_elim, arith}
 use Rattle.std.specs.List.{prefix_len}
 use Rattle.std.proofs.lemmas.List.{set_at, length-take-le, take-append-drop, take_all, drop_all}
 use Rattle.std.proofs.lemmas.List.Sums.{prefix_len-le-length}
@@ -156,11 +156,6 @@ module _ {X : Type 0} (es : List (Entry X)) (order : rising 0 es ≡ true) (e : 
 -- where the flag is set, ticks sent never fall
 pub steady_flag : {X : Type 0} (r : Rack X) → r.timely ≡ true → steady 0 (kept r) ≡ true
 steady_flag r t = sym (ap (λ (b : Bool). not b || steady 0 (kept r)) t) ∙ r.ticks
-
--- the last tick sent, by the record at the end
-pub last_none : {X : Type 0} (es : List (Entry X)) → length es ≤ 0 → last_sent 0 es ≡ 0
-last_none [] h = refl
-last_none (e ∷ es) h = absurd (omega arith)
 
 pub last_some : {X : Type 0} (es : List (Entry X)) (x : Entry X) → 0 < length es → x ≡ get_or es (length es - 1) x → last_sent 0 es ≡ x.held.sent
 last_some es x h g = last_read 0 (length es - 1) es x (omega arith) g
