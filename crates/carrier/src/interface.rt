@@ -9,6 +9,7 @@ use crate::fault::CarrierFault;
 use crate::message::{Held, Post};
 use crate::owed::Key;
 
+// number and station stand apart: what waits is a function of the two, and drop_for names a station alone
 pub trait Carrier<B: Copy> {
     // The copy that waits under a message number for a receiver.
     ghost waits: { Self → Waits (Held B) };

@@ -41,23 +41,16 @@ pub(crate) fn share<B: Copy>(held: Held<B>, to: Stations) -> Held<Shared<B>>
 pub(crate) fn open<B: Copy>(message: Option<Held<Shared<B>>>, station: u8) -> Option<Held<B>>
     ensures { result ≡ opened message station }
 {
-    let Some(held) = message else {
-        return None;
-    };
     let Held {
         from,
         content: Shared { content, to },
         sent,
-    } = held;
-    if to.contains(station) {
-        Some(Held {
-            from,
-            content,
-            sent,
-        })
-    } else {
-        None
-    }
+    } = message?;
+    to.contains(station).then_some(Held {
+        from,
+        content,
+        sent,
+    })
 }
 
 // The message without one receiver, or nothing where it was the last.

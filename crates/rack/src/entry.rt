@@ -7,7 +7,9 @@ use carrier::message::Held;
 // What is held under a key; a record that is not live waits to be squeezed out.
 #[derive(Clone, Copy)]
 pub struct Entry<V> {
+    // the rank of its key
     pub(crate) key: u64,
+    // not an Option: a taken record keeps its tick, so that ticks sent still never fall along the records
     pub(crate) live: bool,
     pub(crate) held: Held<V>,
 }

@@ -30,7 +30,7 @@ impl<'a, B: Copy> Pool<'a, B> {
         enough(records.len(), LEAST)
     }
 
-    // An empty pool over lent memory, whatever that held.
+    // An empty pool over lent memory, whatever that held; never fails, since over too little every law still holds and is_ample tells.
     pub fn new(records: &'a mut [Entry<Shared<B>>]) -> Pool<'a, B>
         ensures empty { pooled result.rack ≡ nothing }
         ensures all { capacity result.rack ≡ length records.old }
@@ -103,12 +103,8 @@ impl<'a, B: Copy> Carrier<B> for Pool<'a, B> {
 
     fn take(&mut self, _key: &Key, number: u32, station: u8) -> Result<Held<B>, CarrierFault> {
         let message = self.rack.get(number, 0);
-        let Some(held) = open(message, station) else {
-            return Err(CarrierFault::NotWaiting);
-        };
-        let Some(kept) = message else {
-            return Err(CarrierFault::NotWaiting);
-        };
+        let held = open(message, station).ok_or(CarrierFault::NotWaiting)?;
+        let kept = message.ok_or(CarrierFault::NotWaiting)?;
         self.rack.change(number, 0, without(kept.content, station));
         Ok(held)
     }

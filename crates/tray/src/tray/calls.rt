@@ -28,7 +28,7 @@ impl<'a, B: Copy> Tray<'a, B> {
         enough(records.len(), LEAST)
     }
 
-    // An empty tray over lent memory, whatever that held.
+    // An empty tray over lent memory, whatever that held; never fails, since over too little every law still holds and is_ample tells.
     pub fn new(records: &'a mut [Entry<B>]) -> Tray<'a, B>
         ensures empty { stored result.rack ≡ nothing }
         ensures all { capacity result.rack ≡ length records.old }
@@ -96,9 +96,10 @@ impl<'a, B: Copy> Carrier<B> for Tray<'a, B> {
     }
 
     fn take(&mut self, _key: &Key, number: u32, station: u8) -> Result<Held<B>, CarrierFault> {
-        let Some(held) = self.rack.get(number, station) else {
-            return Err(CarrierFault::NotWaiting);
-        };
+        let held = self
+            .rack
+            .get(number, station)
+            .ok_or(CarrierFault::NotWaiting)?;
         self.rack.change(number, station, None);
         Ok(held)
     }

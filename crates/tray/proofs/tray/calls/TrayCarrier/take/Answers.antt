@@ -1,11 +1,10 @@
-use Rattle.std.proofs.Common.{None, sym, refl, ap, ◌∙◌}
-use Rattle.carrier.specs.Waits.{found}
+use Rattle.std.proofs.Common.{◌≡◌, None, rules}
 use Rattle.carrier.proofs.Copies.{at_same}
 use Rattle.rack.specs.Racks.{stored}
 use Rattle.tray.proofs.tray.calls.TrayCarrier.take.Goals as goal
 
-pub returns-in_default : goal.returns-in_default
-returns-in_default g c =
+pub returns-in_err-held-clause-after : goal.returns-in_err-held-clause-after
+returns-in_err-held-clause-after g c =
     let w = stored c.args.self.now.rack in
-    let gone = sym c.get.ensures ∙ c.in_default.is in
-    record { value = sym (ap found gone); after = at_same w c.args.number c.args.station None gone; same = refl }
+    let gone : w c.args.number c.args.station ≡ None = search rules in
+    at_same w c.args.number c.args.station None gone
