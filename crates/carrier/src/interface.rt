@@ -15,6 +15,7 @@ pub trait Carrier<B: Copy> {
     ghost waits: { Self → Waits (Held B) };
 
     // The room rule: whether messages fit beside what waits, all together.
+    // Each call says that it is the same afterwards, since no type ties a carrier to what it was before.
     ghost room: { Self → Room B };
 
     // Whether enough memory was lent for what a single step posts.

@@ -14,6 +14,7 @@ pub enum Life {
 #[derive(Clone, Copy)]
 pub struct Station<R, S> {
     pub life: Life,
+    // crashed and joined are no cases of `life`: both stay as they are when the station leaves
     pub crashed: bool,
     pub joined: bool,
     pub known: Known<S>,

@@ -81,6 +81,7 @@ impl<'a, R: Copy> OperationLog<'a, R> {
     }
 
     // Counts a reply of phase one in p's latest entry, if it has one; where a count cannot rise, nothing changes.
+    // A bool, as a set's `insert` answers: there is one way to fail, and it has no number.
     pub fn count_one(&mut self, p: u8) -> bool
         ensures value { result ≡ can_count p (log_of self.old) }
         ensures after { log_of self.new ≡ (if can_count p (log_of self.old) then at_latest p count_one (log_of self.old) else log_of self.old) }

@@ -38,6 +38,7 @@ impl Delivered for Gas {
 
 impl Gas {
     // Writes the record's bytes at the front, and answers how many; the rest stays as it was.
+    // Not `to_bytes`, as a response has: a gas record is of one of three lengths.
     pub fn put(&self, out: &mut [u8; 10]) -> usize
         ensures value { result ≡ length (gas_bytes self.now) }
         ensures after { out.new ≡ gas_bytes self.now ++ drop (length (gas_bytes self.now)) out.old }

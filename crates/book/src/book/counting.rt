@@ -45,6 +45,7 @@ impl LimitBook {
     }
 
     // Notes an arrival or departure in the present tick; where the count cannot rise, nothing changes.
+    // A bool, as a set's `insert` answers: there is one way to fail, and it has no number.
     pub fn note_move(&mut self) -> bool
         ensures value { result ≡ can_note (book_of self.old) }
         ensures after { book_of self.new ≡ (if can_note (book_of self.old) then with_move (book_of self.old) else book_of self.old) }

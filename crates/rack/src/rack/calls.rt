@@ -1,4 +1,4 @@
-// What can be asked of a rack, and done with it.
+// What can be asked of a rack, and done with it. Each call says that the capacity stays, since no type ties a rack to what it was before.
 ghost use Rattle.std.specs.Prelude.{◌≡◌, ℕ, ◌+◌, ◌≤◌, not, length, if◌then◌else◌, Some, Option, ◌==◌};
 ghost use Rattle.carrier.specs.Counts.{copies, under, earliest};
 ghost use Rattle.carrier.specs.Waits.{nothing, at};
