@@ -32,7 +32,7 @@ pub trait Carrier<B: Copy> {
     fn look(&self, number: u32, station: u8) -> Option<Held<B>>
         ensures { result ≡ waits self.now number station };
 
-    // Whether a message fits.
+    // Whether a message fits. Two calls and none over a slice: a step sends one message or two, and the test of two is no loop over the test of one.
     fn room_one(&self, item: &Post<B>) -> bool
         ensures { result ≡ room self.now (waits self.now) (item.now ∷ []) };
 

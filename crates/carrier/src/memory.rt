@@ -4,7 +4,7 @@ ghost use Rattle.carrier.specs.Memory.{small_told, sized};
 
 use refusals::{Layer, Refusal};
 
-// Fewer records were lent than a single step's messages may take.
+// Fewer records were lent than a single step's messages may take. Of its own, since a carrier does not stand on settings.
 #[derive(Clone, Copy, PartialEq, Eq, Debug)]
 pub struct TooSmall;
 

@@ -2,7 +2,7 @@
 use stations::Stations;
 
 // What waits for a receiver: who sent it, what it says, and the tick at which it was sent.
-#[derive(Clone, Copy)]
+#[derive(Clone, Copy, PartialEq, Eq, Debug)]
 pub struct Held<B> {
     pub from: u8,
     pub content: B,

@@ -16,7 +16,7 @@ pub struct Key(());
 pub struct Owed<B: Copy> {
     station: u8,
     held: Held<B>,
-    // never set: applying a debt takes it apart, and nothing makes one that is forgiven
+    // a mark, since the gate refuses a `drop` that asks for what cannot be; never set: applying a debt takes it apart, and nothing makes one that is forgiven
     forgiven: bool,
 }
 

@@ -85,11 +85,6 @@ fn draw(seed: &mut u64, turn: u32) -> Call {
     }
 }
 
-// What a copy holds, so that two can be compared.
-fn parts(held: Held<u32>) -> (u8, u32, u16) {
-    (held.from, held.content, held.sent)
-}
-
 // One call, on both; answers whether they agree.
 fn agree<C: Carrier<u32>>(
     carrier: &mut C,
@@ -106,11 +101,11 @@ fn agree<C: Carrier<u32>>(
         }
         Call::HandOver(number, station) => {
             let handed = hand_over(carrier, *number, *station, &mut [Ear; 16]);
-            Ok(handed.map(parts) == plain.take(*number, *station).map(parts))
+            Ok(handed == plain.take(*number, *station))
         }
         Call::Look(number, station) => {
             let seen = carrier.look(*number, *station);
-            Ok(seen.map(parts) == plain.look(*number, *station).map(parts))
+            Ok(seen == plain.look(*number, *station))
         }
         Call::RoomTwo(first, second) => {
             Ok(carrier.room_two(first, second) == plain.fit_both(first, second))

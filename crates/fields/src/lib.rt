@@ -17,6 +17,7 @@ pub fn split<T: Field<N>, const N: usize>(bytes: &[u8]) -> Option<(T, &[u8])>
 }
 
 // Writes bytes into the buffer from an offset on, and answers the offset after them.
+// An offset and no rest of the buffer, since it answers the next one, or leaves all as it was.
 // Where they do not fit it answers none, and the buffer stays as it was.
 pub fn put_bytes(buffer: &mut [u8], at: usize, bytes: &[u8]) -> Option<usize>
     ensures value { result ≡ put_end at bytes.now buffer.old }

@@ -15,6 +15,7 @@ use std::fmt;
 pub struct Contents {
     pub choice: Choice,
     pub class: Class,
+    // table and present once more, and no `Start`, which borrows from the file: contents outlive it
     // the number of places for stations
     pub table: u16,
     // the number of stations present at the start

@@ -26,20 +26,18 @@ module _ {R : Type 0} where
     pub log_some : 1 ≤ u.places
     pub log_most : u.places ≤ 65535
 
--- what a new run is lent: how many stations and how many log entries there is memory for, and whether the carrier has enough for a single step
-pub record Lent : Type 0 where
-  pub stations : ℕ
-  pub entries : ℕ
-  pub ample : Bool
-
--- memory for every station of the table, for 1 to 65,535 log entries, and for the messages of a step
-abbrev pub memory_fits : ℕ → Lent → Bool
-memory_fits table m = nat_le table m.stations && nat_le 1 m.entries && nat_le m.entries 65535 && m.ample
+-- memory for every station of the table, and a log of 1 to 65,535 entries
+abbrev pub memory_fits : ℕ → ℕ → ℕ → Bool
+memory_fits table stations entries = nat_le table stations && nat_le 1 entries && nat_le entries 65535
 
 abbrev pub then_memory : Bool → Result (Unit {0}) Refusal → Result (Unit {0}) Refusal
 then_memory fits (Err r) = Err r
 then_memory fits (Ok u) = cond fits (Ok tt) (Err (told MemorySize))
 
 -- the refusal of a new run with k stations present: 10, 16, and last 17
-abbrev pub start_refusal : Choice → ℕ → ℕ → Lent → Result (Unit {0}) Refusal
-start_refusal c table k m = then_memory (memory_fits table m) (start_admission c table k)
+abbrev pub start_refusal : Choice → ℕ → ℕ → ℕ → ℕ → Result (Unit {0}) Refusal
+start_refusal c table k stations entries = then_memory (memory_fits table stations entries) (start_admission c table k)
+
+-- and 17 too where the carrier has not enough memory for the messages of a single step
+abbrev pub run_refusal : Choice → ℕ → ℕ → ℕ → ℕ → Bool → Result (Unit {0}) Refusal
+run_refusal c table k stations entries ample = then_memory ample (start_refusal c table k stations entries)

@@ -37,12 +37,11 @@ pub enum StepFault {
     Log(LogFault),
 }
 
-impl LogFault {
-    // Not a From: a number alone would not read as the fault of a log.
-    pub fn number(&self) -> u8
-        ensures { result ≡ log_number self.now }
-    {
-        match self {
+impl From<LogFault> for u8 {
+    ghost from_gives = { λ f n. n ≡ log_number f };
+
+    fn from(fault: LogFault) -> u8 {
+        match fault {
             LogFault::Full => 50,
         }
     }
@@ -67,7 +66,7 @@ impl StepFault {
             StepFault::CopyDue => (33, Layer::Step),
             StepFault::ClockEnd => (34, Layer::Step),
             StepFault::Carrier(f) => (Refusal::from(*f).number, Layer::Carrier),
-            StepFault::Log(f) => (f.number(), Layer::Log),
+            StepFault::Log(f) => (u8::from(*f), Layer::Log),
         };
         Refusal {
             number,

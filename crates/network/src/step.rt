@@ -1,4 +1,4 @@
-// A step of a run.
+// A step of a run. A step of a file names its record by bytes, and a schedule does not know the network.
 
 #[derive(Clone, Copy)]
 pub enum Step<R> {

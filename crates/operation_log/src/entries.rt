@@ -39,7 +39,7 @@ pub(crate) fn can_count<R: Copy>(entry: &Entry<R>) -> bool
     entry.replies_one < u32::MAX && entry.replies_two < u32::MAX
 }
 
-// A reply more in phase one.
+// A reply more in phase one. Two functions, since the rules have a word for each phase; what they require is asked once, by `can_count` in `change_latest`.
 pub(crate) fn count_one<R: Copy>(entry: Entry<R>) -> Entry<R>
     requires { counts_may_rise (Some entry) ≡ true }
     ensures { result ≡ count_one entry }

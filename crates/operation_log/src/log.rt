@@ -164,7 +164,7 @@ impl<'a, R: Copy> OperationLog<'a, R> {
 fn is_log_size(entries: usize) -> bool
     ensures { result ≡ log_size entries }
 {
-    1 <= entries && entries <= 65535
+    (1..=65535).contains(&entries)
 }
 
 // The places of the latest entries where no station has one.

@@ -54,14 +54,11 @@ pub(crate) fn open<B: Copy>(message: Option<Held<Shared<B>>>, station: u8) -> Op
 }
 
 // The message without one receiver, or nothing where it was the last.
+#[tactic(auto, unfolding(crate::specs::Pooled::lesser))]
 pub(crate) fn without<B: Copy>(message: Shared<B>, station: u8) -> Option<Shared<B>>
     ensures { result ≡ lesser station message }
 {
     let Shared { content, mut to } = message;
     to.remove(station);
-    if to.is_empty() {
-        None
-    } else {
-        Some(Shared { content, to })
-    }
+    (!to.is_empty()).then_some(Shared { content, to })
 }

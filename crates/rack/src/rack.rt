@@ -12,7 +12,7 @@ mod places;
 #[derive(Drop)]
 pub struct Rack<'a, V> {
     records: &'a mut [Entry<V>],
-    // how many records are in use
+    // how many records are in use: no Vec, since the memory is lent
     len: usize,
     // how many of them are live
     live: usize,

@@ -5,7 +5,7 @@ ghost use Rattle.rack.specs.Entries.{Follows, rest_of, sifted};
 use crate::entry::Entry;
 use carrier::message::Held;
 
-// What the rule leaves of a record.
+// What the rule leaves of a record. That the rule may be called is asked each time, since no type says it of a closure.
 fn rest<V: Copy, F: Fn(u8, V) -> Option<V>>(entry: Entry<V>, rule: &F) -> Option<Entry<V>>
     requires { F.IsAlwaysCallable rule.now }
     ensures { (f : ℕ → V → Option V) → Follows (F.post rule.now) f → result ≡ rest_of f entry }

@@ -13,7 +13,7 @@ use crate::{Record, Start};
 use records::{Class, UnknownClass};
 use settings::Choice;
 
-// The four steps that name a station alone.
+// The four steps that name a station alone. A kind stays the number that the file has.
 fn station_step<'a>(kind: u16, station: u16) -> Record<'a>
     requires { (4 ≤ kind) × (kind ≤ 7) }
     ensures { shown result ≡ station_step kind station }
@@ -27,7 +27,7 @@ fn station_step<'a>(kind: u16, station: u16) -> Record<'a>
 }
 
 impl Stage {
-    // The record of a frame. A kind stays a number, as the file has it, so that ranges and guards tell kinds apart.
+    // The record of a frame. A kind stays a number, as the file has it: the project wants ranges and guards to tell kinds apart.
     pub(crate) fn decide<'a>(self, frame: Frame<'a>) -> Result<Record<'a>, Flaw>
         ensures { shown_of result ≡ decided self frame.entry.kind frame.entry.body.now }
     {

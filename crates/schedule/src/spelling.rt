@@ -32,7 +32,7 @@ fn settings_bytes(c: &Choice) -> [u8; 16]
     [14, 0, 1, 0, a0, a1, d0, d1, b0, b1, g0, g1, n0, n1, t0, t1]
 }
 
-// A step that names a station alone, by the low byte of its kind.
+// A step that names a station alone, by the low byte of its kind, which stays the number that the file has.
 fn station_bytes(kind: u8, station: u16) -> [u8; 6]
     ensures { result ≡ framed kind (le2 station) }
 {

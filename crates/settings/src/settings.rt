@@ -30,7 +30,7 @@ impl Settings {
         self.choice
     }
 
-    // Whether a network of this table may start with so many stations present.
+    // Whether a network of this table may start with so many stations present: two numbers, as a start of any kind has them.
     pub fn admit_start(&self, table: u16, present: u16) -> Result<(), SettingsFault>
         ensures { outcome result (λ u. u) ≡ start_admission self.now.choice table present }
     {

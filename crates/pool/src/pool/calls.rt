@@ -23,7 +23,7 @@ use rack::rack::Rack;
 const LEAST: usize = 2;
 
 impl<'a, B: Copy> Pool<'a, B> {
-    // Whether the memory is enough for a pool.
+    // Whether the memory is enough for a pool: like other calls here one call of what the makes share, at the pool's own number and records.
     pub fn check(records: &[Entry<Shared<B>>]) -> Result<(), TooSmall>
         ensures { result ≡ sized 2 (length records.now) }
     {

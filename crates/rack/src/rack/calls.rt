@@ -69,6 +69,7 @@ impl<'a, V: Copy> Rack<'a, V> {
     }
 
     // Holds a copy where none is held yet and not all records are in use; answers whether it did.
+    // A bool, as a set's `insert` answers: there is one way to fail, and it has no number.
     pub fn insert(&mut self, number: u32, station: u8, held: Held<V>) -> bool
         ensures value { result ≡ spare self.old number station }
         ensures after { stored self.new ≡ (if spare self.old number station then at number station (Some held) (stored self.old) else stored self.old) }

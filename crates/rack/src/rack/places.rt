@@ -26,7 +26,7 @@ impl<'a, V: Copy> Rack<'a, V> {
         ensures value { result ≡ prefix_len (before key.rank) (kept self.now) }
         ensures bound { result ≤ self.now.len }
     {
-        // by hand: partition_point takes twice as long in a small memory, where the branches of this loop are foreseen
+        // by hand: partition_point takes two to three times as long in a small memory, where the branches of this loop are foreseen
         let records = self.used();
         let mut low = 0;
         let mut high = records.len();

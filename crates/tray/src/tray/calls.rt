@@ -21,7 +21,7 @@ use rack::rack::Rack;
 const LEAST: usize = 257;
 
 impl<'a, B: Copy> Tray<'a, B> {
-    // Whether the memory is enough for a tray.
+    // Whether the memory is enough for a tray: like other calls here one call of what the makes share, at the tray's own number and records.
     pub fn check(records: &[Entry<B>]) -> Result<(), TooSmall>
         ensures { result ≡ sized 257 (length records.now) }
     {
@@ -125,6 +125,7 @@ fn fill<B: Copy>(rack: &mut Rack<B>, item: &Post<B>)
     ensures same { capacity rack.new ≡ capacity rack.old }
 {
     let Post { number, held, to } = *item;
+    // counted to 256 and cast: of a range up to the last u8 it was not proved that it gives every station
     for q in 0..256u16 {
         let station = q as u8;
         if to.contains(station) {
