@@ -1,0 +1,17 @@
+pub mod Acting
+pub mod Admitting
+pub mod Arrivals
+pub mod Copies
+pub mod Crashing
+pub mod Departures
+pub mod Faults
+pub mod Outcomes
+pub mod Stations
+pub mod NewRuns
+pub mod Reaching
+pub mod Tasks
+pub mod Ticking
+pub mod Letters
+pub mod Sending
+pub mod Sent
+pub mod WhereCome

@@ -1,0 +1,12 @@
+use Rattle.network.specs.declared.step.Step.TheVariants.{Tick}
+use Rattle.engine.specs.Memories.{state_of, setup_of}
+use Rattle.engine.proofs.Reaching.{comes_on}
+use Rattle.engine.proofs.networks.Network.tick.Goals as goal
+
+pub invariant_of-self : goal.invariant_of-self
+invariant_of-self g c =
+    let n = c.args.self.now in
+    record {
+      kept = c.tick.ensures.kept;
+      reached = comes_on (setup_of g.C.Carrier.room n.memory) (setup_of g.C.Carrier.room c.tick.new.self) Tick (state_of g.C.Carrier.waits n.memory) (state_of g.C.Carrier.waits c.tick.new.self) n.reached c.tick.ensures.after c.tick.ensures.same;
+    }
