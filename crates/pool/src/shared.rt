@@ -4,6 +4,7 @@ ghost use Rattle.pool.specs.Pooled.{opened, lesser, shared_by};
 
 use carrier::message::Held;
 use rack::entry::Entry;
+use rack::sift::Trim;
 use stations::Stations;
 
 // The content of a message, with the receivers for which it still waits.
@@ -61,4 +62,18 @@ pub(crate) fn without<B: Copy>(message: Shared<B>, station: u8) -> Option<Shared
     let Shared { content, mut to } = message;
     to.remove(station);
     (!to.is_empty()).then_some(Shared { content, to })
+}
+
+// Every copy for one station goes.
+#[derive(Clone, Copy)]
+pub(crate) struct Leaving {
+    pub(crate) station: u8,
+}
+
+impl<B: Copy> Trim<Shared<B>> for Leaving {
+    ghost trimmed = { λ l q v. lesser l.station v };
+
+    fn trim(&self, _station: u8, content: &Shared<B>) -> Option<Shared<B>> {
+        without(*content, self.station)
+    }
 }

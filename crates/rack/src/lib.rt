@@ -6,4 +6,4 @@ mod key;
 pub mod rack;
 mod search;
 mod shift;
-mod sift;
+pub mod sift;

@@ -5,6 +5,15 @@ ghost use Rattle.rack.specs.Entries.{Follows, rest_of, sifted};
 use crate::entry::Entry;
 use carrier::message::Held;
 
+// A rule that changes contents by station, or removes copies.
+pub trait Trim<V: Copy> {
+    // What is left of the content of a copy for a station.
+    ghost trimmed: { Self → ℕ → V → Option V };
+
+    fn trim(&self, station: u8, content: &V) -> Option<V>
+        ensures { result ≡ trimmed self.now station content.now };
+}
+
 // What the rule leaves of a record. That the rule may be called is asked each time, since no type says it of a closure.
 fn rest<V: Copy, F: Fn(u8, V) -> Option<V>>(entry: Entry<V>, rule: &F) -> Option<Entry<V>>
     requires { F.IsAlwaysCallable rule.now }

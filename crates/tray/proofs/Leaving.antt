@@ -1,19 +1,14 @@
--- What is left where a station leaves.
-use Rattle.std.proofs.Common.{◌≡◌, ℕ, Bool, true, false, not, cond, eqb, Some, None, Option, refl}
-use Rattle.std.specs.Bool.{then_some}
+-- What the rule of leaving leaves.
+use Rattle.std.proofs.Common.{◌≡◌, ℕ, Bool, true, false, cond, eqb, Some, None, Option, refl}
 use mathlib.Core.Path.{fun_ext}
 use Rattle.carrier.specs.Waits.{Waits, except}
 use Rattle.carrier.specs.declared.message.Held.{Held}
 use Rattle.rack.specs.Entries.{trimmed_held}
 
--- every copy but those for the station
-abbrev pub leaving : {X : Type 0} → ℕ → ℕ → X → Option X
-leaving s q v = then_some (not (eqb q s)) v
-
-pub left_except : {X : Type 0} (s : ℕ) (w : Waits (Held X)) → (λ n q. trimmed_held (leaving s) q (w n q)) ≡ except s w
+pub left_except : {X : Type 0} (s : ℕ) (w : Waits (Held X)) → (λ n q. trimmed_held (λ p v. cond (eqb p s) None (Some v)) q (w n q)) ≡ except s w
 unfolding except
 left_except s w = fun_ext (λ n. fun_ext (λ q. at_station (eqb q s) (w n q) q)) where
-  at_station : {X : Type 0} (b : Bool) (o : Option (Held X)) (q : ℕ) → trimmed_held (λ (p : ℕ) v. then_some (not b) v) q o ≡ cond b None o
+  at_station : {X : Type 0} (b : Bool) (o : Option (Held X)) (q : ℕ) → trimmed_held (λ (p : ℕ) v. cond b None (Some v)) q o ≡ cond b None o
   at_station true None q = refl
   at_station true (Some h) q = refl
   at_station false None q = refl

@@ -1,4 +1,5 @@
 // A carrier that keeps one record a copy.
 #![tactic(auto)]
 
+mod rules;
 pub mod tray;

@@ -9,7 +9,7 @@ ghost use Rattle.pool.specs.Bounds.{pooled_bound};
 ghost use Rattle.pool.specs.Meaning.{pooled};
 
 use crate::pool::Pool;
-use crate::shared::{Shared, open, share, without};
+use crate::shared::{Leaving, Shared, open, share, without};
 use carrier::fault::CarrierFault;
 use carrier::interface::Carrier;
 use carrier::memory::{TooSmall, enough};
@@ -110,7 +110,7 @@ impl<'a, B: Copy> Carrier<B> for Pool<'a, B> {
     }
 
     fn drop_for(&mut self, station: u8) {
-        self.rack.sift(|_, message| without(message, station));
+        self.rack.sift(&Leaving { station });
     }
 
     fn clear(&mut self) {

@@ -1,8 +1,8 @@
 // What can be asked of a rack, and done with it. Each call says that the capacity stays, since no type ties a rack to what it was before.
-ghost use Rattle.std.specs.Prelude.{◌≡◌, ℕ, ◌+◌, ◌≤◌, not, length, if◌then◌else◌, Some, Option, ◌==◌};
+ghost use Rattle.std.specs.Prelude.{◌≡◌, ◌+◌, ◌≤◌, not, length, if◌then◌else◌, Some, ◌==◌};
 ghost use Rattle.carrier.specs.Counts.{copies, under, earliest};
 ghost use Rattle.carrier.specs.Waits.{nothing, at};
-ghost use Rattle.rack.specs.Entries.{Follows, changed, trimmed_held};
+ghost use Rattle.rack.specs.Entries.{changed, trimmed_held};
 ghost use Rattle.rack.specs.Racks.{stored, capacity, spare};
 
 use crate::entry::Entry;
@@ -10,6 +10,7 @@ use crate::key::Key;
 use crate::rack::Rack;
 use crate::search::{busy_below, earliest_sent};
 use crate::shift::put_over;
+use crate::sift::Trim;
 use carrier::message::Held;
 
 impl<'a, V: Copy> Rack<'a, V> {
@@ -108,14 +109,13 @@ impl<'a, V: Copy> Rack<'a, V> {
         self.live = self.live - 1 + stays as usize;
     }
 
-    // Keeps what the rule leaves of each copy, by its station and content.
-    pub fn sift<F: Fn(u8, V) -> Option<V>>(&mut self, rule: F)
-        requires called { F.IsAlwaysCallable rule }
-        requires followed { (f : ℕ → V → Option V) × Follows (F.post rule) f }
-        ensures after { (f : ℕ → V → Option V) → Follows (F.post rule) f → stored self.new ≡ (λ n q. trimmed_held f q (stored self.old n q)) }
+    // Keeps what the rule leaves of each copy.
+    // A trait and no closure: its law says what the rule leaves, so that nothing is asked of a caller.
+    pub fn sift<T: Trim<V>>(&mut self, rule: &T)
+        ensures after { stored self.new ≡ (λ n q. trimmed_held (T.trimmed rule.now) q (stored self.old n q)) }
         ensures same { capacity self.new ≡ capacity self.old }
     {
-        self.squeeze(&rule);
+        self.squeeze(&|station, content| rule.trim(station, &content));
     }
 
     // Holds nothing any more.

@@ -7,6 +7,7 @@ ghost use Rattle.carrier.proofs.Rooms.{copy_cost, room_starts, room_shrinks, roo
 ghost use Rattle.rack.specs.Racks.{stored, capacity};
 ghost use Rattle.rack.proofs.Numbers.{stored_bound};
 
+use crate::rules::Leaving;
 use crate::tray::Tray;
 use carrier::fault::CarrierFault;
 use carrier::interface::Carrier;
@@ -105,8 +106,7 @@ impl<'a, B: Copy> Carrier<B> for Tray<'a, B> {
     }
 
     fn drop_for(&mut self, station: u8) {
-        self.rack
-            .sift(|q, content| (q != station).then_some(content));
+        self.rack.sift(&Leaving { station });
     }
 
     fn clear(&mut self) {
