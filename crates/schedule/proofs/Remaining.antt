@@ -1,5 +1,5 @@
 -- The bytes of records that are not yet gone through.
-use Rattle.std.proofs.Common.{◌≡◌, ℕ, ◌+◌, ◌-◌, ◌^◌, ◌<◌, ◌≤◌, min, nat_le, fold, arith, List, [], ◌∷◌, ◌++◌, map, length, get_or, drop, sym, ap, ◌∙◌, add-one, zero-add, length-append, drop-cons}
+use Rattle.std.proofs.Common.{◌≡◌, ℕ, ◌+◌, ◌<◌, ◌≤◌, List, [], ◌++◌, map, length, get_or, drop, sym, ap, ◌∙◌, add-one, length-append, drop-cons}
 use Rattle.std.proofs.lemmas.List.{drop_all}
 use Rattle.schedule.specs.declared.Record.{Record}
 use Rattle.schedule.specs.declared.Record.TheVariants.{Settings}
@@ -34,21 +34,3 @@ bytes_end rs i h = ap all_bytes (drop_all i rs h)
 
 pub length_end : (rs : List Record) (i : ℕ) → length rs ≤ i → length (bytes_from i rs) ≡ 0
 length_end rs i h = ap length (bytes_end rs i h)
-
--- a length with that of one record more, at most as a `usize` holds
-abbrev pub capped : ℕ → Record → ℕ
-capped n r = min (n + length (spell (shown r))) (2 ^ 64 - 1)
-
-capped_more : (a b c m : ℕ) → m < 2 ^ 64 - 1 → nat_le (min (a + b) (2 ^ 64 - 1) + c) m ≡ nat_le (a + (b + c)) m
-capped_more a b c m h = grind arith
-
-capped_from : (rs : List Record) (n m : ℕ) → m < 2 ^ 64 - 1 → nat_le (fold capped n rs) m ≡ nat_le (n + length (all_bytes rs)) m
-capped_from [] n m h = grind arith
-capped_from (r ∷ rs) n m h =
-    capped_from rs (capped n r) m h
-    ∙ capped_more n (length (spell (shown r))) (length (all_bytes rs)) m h
-    ∙ ap (λ (k : ℕ). nat_le (n + k) m) (sym (length-append (spell (shown r)) (all_bytes rs)))
-
--- a capped total is small exactly where the length of all bytes is
-pub capped_total : (rs : List Record) (m : ℕ) → m < 2 ^ 64 - 1 → nat_le (fold capped 0 rs) m ≡ nat_le (length (all_bytes rs)) m
-capped_total rs m h = capped_from rs 0 m h ∙ ap (λ (k : ℕ). nat_le k m) (zero-add (length (all_bytes rs)))

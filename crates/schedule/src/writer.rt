@@ -53,10 +53,15 @@ fn check_records(records: &[Record<'_>]) -> Result<usize, FileFault>
 fn fit_in_file(records: &[Record<'_>]) -> bool
     ensures { result ≡ nat_le (length (spelled (map shown records.now))) most_bytes }
 {
-    let total = records
-        .iter()
-        .fold(0usize, |total, item| total.saturating_add(item.size()));
-    total <= MOST_BYTES
+    let mut left = MOST_BYTES;
+    // a loop, which ends at the first record without room: a fold would go through them all
+    for item in records {
+        match left.checked_sub(item.size()) {
+            Some(rest) => left = rest,
+            None => return false,
+        }
+    }
+    true
 }
 
 // Puts records that fit, from the front of the buffer on.
