@@ -1,17 +1,8 @@
 -- The ring of rows: one row more, and the test that goes through it from the newest row on.
-use Rattle.std.proofs.Common.{◌≡◌, ℕ, zero, suc, ◌+◌, ◌-◌, ◌*◌, ◌%◌, ◌<◌, ◌≤◌, min, Bool, true, false, ◌&&◌, ltb, leb, ◌≢◌, List, ◌∷◌, ◌++◌, length, get_or, take, drop, set, Bor, Option, Some, None, sym, refl, ap, ◌∙◌, ⊎_elim, mul-le-mul, arith, length-append, length-drop, length-take, get_or-drop, get_or-take, get_or-set_other, get_or-set_same}
+use Rattle.std.proofs.Common.{◌≡◌, ℕ, zero, suc, ◌+◌, ◌-◌, ◌*◌, ◌%◌, ◌<◌, ◌≤◌, min, Bool, true, false, ◌&&◌, ltb, leb, ◌≢◌, List, ◌∷◌, length, get_or, take, set, sym, refl, ap, ◌∙◌, ⊎_elim, mul-le-mul, arith, get_or-set_other, get_or-set_same}
 use Rattle.std.proofs.lemmas.Bool.{cases_lt, lt-ltb}
-use Rattle.std.proofs.lemmas.List.{get_or_append_left, get_or-append_right, get_or_read, take_all}
+use Rattle.std.proofs.lemmas.List.{take_all}
 use Rattle.std.proofs.lemmas.Bool.Decides.{nat_tests}
-use Rattle.std.proofs.iter.Yields.{fronts}
-use Rattle.std.proofs.lemmas.Iterator.{YieldsList, YieldsList-from_slice, YieldsList-from_take}
-use Rattle.std.proofs.lemmas.Iterator.Consumers.{YieldsList-from_chain, YieldsList-turn, YieldsList-end}
-use Rattle.std.specs.Iterator.{Yields}
-use Rattle.std.specs.Iterator.Adapters.{take_source, take_count, take_steps, chain_first, chain_second, chain_first_done, chain_second_done, chain_steps}
-use Rattle.std.specs.Slice.Iter.{iter_rest}
-use Rattle.std.specs.declared.iter.Chain.{Chain}
-use Rattle.std.specs.declared.iter.Take.{Take}
-use Rattle.std.specs.declared.slice.Iter.{Iter}
 use Rattle.book.specs.declared.book.TickRow.{TickRow}
 use Rattle.network.specs.Books.{Row, Book, within_churn, allows}
 use Rattle.book.specs.Rings.{row_of, no_row, ring, can_note}
@@ -20,13 +11,13 @@ use Rattle.book.specs.Rings.{row_of, no_row, ring, can_note}
 abbrev pub row_at : List TickRow → ℕ → Row
 row_at rows p = row_of (get_or rows (p % 32) no_row)
 
-module _ (rows : List TickRow) (a k i : ℕ) (r : TickRow) (here : (i < k) × (r ≡ get_or rows ((a + i) % 32) no_row)) where
-  pub ring_step : ring rows (a + i) (k - i) ≡ row_of r ∷ ring rows (a + (i + 1)) (k - (i + 1))
+module _ (rows : List TickRow) (a k : ℕ) where
+  pub ring_step : (i : ℕ) → i < k → ring rows (a + i) (k - i) ≡ row_at rows (a + i) ∷ ring rows (a + (i + 1)) (k - (i + 1))
   unfolding ring
-  ring_step =
-      let n : k - i ≡ suc (k - (i + 1)) = omega (arith, here.0) in
+  ring_step i h =
+      let n : k - i ≡ suc (k - (i + 1)) = omega arith in
       let p : (a + i) + 1 ≡ a + (i + 1) = omega arith in
-      ap (ring rows (a + i)) n ∙ ap (λ (b : ℕ). row_at rows (a + i) ∷ ring rows b (k - (i + 1))) p ∙ ap (λ (x : TickRow). row_of x ∷ ring rows (a + (i + 1)) (k - (i + 1))) (sym here.1)
+      ap (ring rows (a + i)) n ∙ ap (λ (b : ℕ). row_at rows (a + i) ∷ ring rows b (k - (i + 1))) p
 
   fits : (x y : ℕ) (b : Bool) → x ≤ y → leb x y && b ≡ b
   fits x y b h = grind (arith, nat_tests)
@@ -35,61 +26,18 @@ module _ (rows : List TickRow) (a k i : ℕ) (r : TickRow) (here : (i < k) × (r
   fails x y b h = grind (arith, nat_tests)
 
   -- a row that allows n moves leaves the test to the older ones, with its own moves added
-  pub churn_step : (alpha n : ℕ) → 100 * n ≤ alpha * r.present
-      → within_churn alpha n (ring rows (a + i) (k - i)) ≡ within_churn alpha (n + r.moves) (ring rows (a + (i + 1)) (k - (i + 1)))
+  pub churn_step : (alpha n i : ℕ) → i < k → 100 * n ≤ alpha * (row_at rows (a + i)).present
+      → within_churn alpha n (ring rows (a + i) (k - i)) ≡ within_churn alpha (n + (row_at rows (a + i)).moves) (ring rows (a + (i + 1)) (k - (i + 1)))
   unfolding within_churn
-  churn_step alpha n l = ap (within_churn alpha n) ring_step ∙ fits _ _ _ l
+  churn_step alpha n i h l = ap (within_churn alpha n) (ring_step i h) ∙ fits _ _ _ l
 
-  pub churn_fails : (alpha n : ℕ) → alpha * r.present < 100 * n → within_churn alpha n (ring rows (a + i) (k - i)) ≡ false
+  pub churn_fails : (alpha n i : ℕ) → i < k → alpha * (row_at rows (a + i)).present < 100 * n → within_churn alpha n (ring rows (a + i) (k - i)) ≡ false
   unfolding within_churn
-  churn_fails alpha n l = ap (within_churn alpha n) ring_step ∙ fails _ _ _ l
+  churn_fails alpha n i h l = ap (within_churn alpha n) (ring_step i h) ∙ fails _ _ _ l
 
-pub churn_none : (rows : List TickRow) (a k i alpha n : ℕ) → k ≤ i → within_churn alpha n (ring rows (a + i) (k - i)) ≡ true
-unfolding within_churn ring
-churn_none rows a k i alpha n h = let z : k - i ≡ 0 = omega arith in ap (λ (j : ℕ). within_churn alpha n (ring rows (a + i) j)) z
-
--- what goes through k rows: those from the newest on, and then those before it
-pub record GoesRound (rows : List TickRow) (a k : ℕ) (s : Take (Chain (Iter TickRow) (Iter TickRow))) : Type 0 where
-  pub first : iter_rest (chain_first (take_source s)) ≡ drop a rows
-  pub second : iter_rest (chain_second (take_source s)) ≡ take a rows
-  pub first_left : chain_first_done (take_source s) ≡ false
-  pub second_left : chain_second_done (take_source s) ≡ false
-  pub count : take_count s ≡ k
-
--- the kept rows, in that order
-module _ (rows : List TickRow) (a k : ℕ) (whole : length rows ≡ 32) (within : a < 32) (few : k ≤ 32) where
-  abbrev kept : List TickRow
-  kept = take k (drop a rows ++ take a rows)
-
-  kept_length : length kept ≡ k
-  kept_length = simp (length-take, length-append, length-drop) (omega arith)
-
-  before : (i : ℕ) → i < 32 - a → i < length (drop a rows)
-  before i h = simp length-drop (omega arith)
-
-  at_place : (i : ℕ) (d : TickRow) → i < k → get_or kept i d ≡ get_or rows ((a + i) % 32) d
-  at_place i d l =
-      get_or-take k _ i d l ∙
-      ⊎_elim
-      (λ h. get_or_append_left _ _ d i (before i h) ∙ get_or-drop a rows i d ∙ ap (λ (j : ℕ). get_or rows j d) (omega arith))
-      (λ h. get_or-append_right _ _ (32 - a) i d (simp length-drop (omega arith)) h ∙ get_or-take a rows _ d (omega arith) ∙ ap (λ (j : ℕ). get_or rows j d) (omega arith))
-      (cases_lt i (32 - a))
-
-  -- the loop through the two parts of the ring, of which xs is done
-  module _ (s : Take (Chain (Iter TickRow) (Iter TickRow))) (goes : GoesRound rows a k s) (xs : List (Bor TickRow)) (t : Take (Chain (Iter TickRow) (Iter TickRow)))
-      (done : Yields (take_steps (chain_steps fronts fronts)) s xs t) (r : Option (Bor TickRow)) (u : Take (Chain (Iter TickRow) (Iter TickRow)))
-      (next : take_steps (chain_steps fronts fronts) t r u) where
-    road : YieldsList (take_steps (chain_steps fronts fronts)) (λ x. x.now) s kept
-    road = YieldsList-from_take k (YieldsList-from_chain (YieldsList-from_slice _ goes.first) (YieldsList-from_slice _ goes.second) goes.first_left goes.second_left) goes.count
-
-    pub kept_turn : (x : Bor TickRow) → r ≡ Some x → (length xs < k) × (x.now ≡ get_or rows ((a + length xs) % 32) no_row)
-    kept_turn x is =
-        let turn = YieldsList-turn road xs t done r u x is next in
-        let l : length xs < k = omega (arith, turn.0, kept_length) in
-        (l, get_or_read rows _ x.now (omega arith) (turn.1 ∙ at_place (length xs) x.now l) no_row)
-
-    pub kept_end : r ≡ None → k ≤ length xs
-    kept_end is = omega (arith, (YieldsList-end road xs t done r u is next).1, kept_length)
+  pub churn_none : (alpha n i : ℕ) → k ≤ i → within_churn alpha n (ring rows (a + i) (k - i)) ≡ true
+  unfolding within_churn ring
+  churn_none alpha n i h = let z : k - i ≡ 0 = omega arith in ap (λ (j : ℕ). within_churn alpha n (ring rows (a + i) j)) z
 
 -- an arrival or departure is never allowed in tick 0, and later where the rows allow it
 pub refused : (clock : ℕ) (b : Bool) → b ≡ false → false ≡ ltb 0 clock && b

@@ -32,16 +32,22 @@ impl Plain {
 
     // Whether a copy of the message with this number waits.
     fn holds(&self, number: u32) -> bool {
-        self.waiting.keys().any(|key| key.0 == number)
+        self.waiting
+            .range((number, 0)..=(number, u8::MAX))
+            .next()
+            .is_some()
     }
 
-    // How many messages wait: each counts at the copy for its lowest station.
+    // How many messages wait: keys rise, so each counts where its number comes first.
     fn messages(&self) -> usize {
-        let waiting = &self.waiting;
-        waiting
+        let (count, _) = self
+            .waiting
             .keys()
-            .filter(|key| !waiting.keys().any(|k| k.0 == key.0 && k.1 < key.1))
-            .count()
+            .fold((0usize, None), |(count, last), key| {
+                let first = last != Some(key.0);
+                (count.wrapping_add(first as usize), Some(key.0))
+            });
+        count
     }
 
     // How many records are in use.
@@ -71,10 +77,13 @@ impl Plain {
     // Whether two messages fit, both together.
     pub(crate) fn fit_both(&self, first: &Post<u32>, second: &Post<u32>) -> bool {
         let (one, other) = (self.needed(first), self.needed(second));
-        let both = self.used().saturating_add(one).saturating_add(other);
+        let both = one.saturating_add(other);
         self.fits(first)
             && self.fits(second)
-            && (one == 0 || other == 0 || (first.number != second.number && both <= self.records))
+            && (one == 0
+                || other == 0
+                || (first.number != second.number
+                    && self.used().saturating_add(both) <= self.records))
     }
 
     pub(crate) fn post(&mut self, item: &Post<u32>) -> Result<(), AllocError> {

@@ -78,9 +78,11 @@ impl<R: Copy> Station<R, Stations> {
 fn first_stations(k: u16) -> Stations
     ensures { member result ≡ (λ p. nat_lt p (min k most_stations)) }
 {
+    let end = k.min(256);
     let mut all = Stations::none();
-    for p in (0..=u8::MAX).take(k.into()) {
-        all.insert(p);
+    // counted and cast: the range up to the last u8 takes three times as long
+    for p in 0..end {
+        all.insert(p as u8);
     }
     all
 }

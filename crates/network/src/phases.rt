@@ -104,7 +104,7 @@ impl<R: Copy> Station<R, Stations> {
                 self.take_offer(offer);
                 poll.rise();
                 if poll.is_quorum(choice) {
-                    self.begin_two(me, task, tag);
+                    self.begin_two(me, task, poll.tag);
                     return true;
                 }
                 self.operation = Operation::PhaseOne { task, poll };

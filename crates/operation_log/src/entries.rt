@@ -40,25 +40,21 @@ pub(crate) fn can_count<R: Copy>(entry: &Entry<R>) -> bool
 }
 
 // A reply more in phase one. Two functions, since the rules have a word for each phase; what they require is asked once, by `can_count` in `change_latest`.
-pub(crate) fn count_one<R: Copy>(entry: Entry<R>) -> Entry<R>
+pub(crate) fn count_one<R: Copy>(mut entry: Entry<R>) -> Entry<R>
     requires { counts_may_rise (Some entry) ≡ true }
     ensures { result ≡ count_one entry }
 {
-    Entry {
-        replies_one: entry.replies_one + 1,
-        ..entry
-    }
+    entry.replies_one += 1;
+    entry
 }
 
 // A reply more in phase two.
-pub(crate) fn count_two<R: Copy>(entry: Entry<R>) -> Entry<R>
+pub(crate) fn count_two<R: Copy>(mut entry: Entry<R>) -> Entry<R>
     requires { counts_may_rise (Some entry) ≡ true }
     ensures { result ≡ count_two entry }
 {
-    Entry {
-        replies_two: entry.replies_two + 1,
-        ..entry
-    }
+    entry.replies_two += 1;
+    entry
 }
 
 // The last reply of phase two: the operation ends, and shows its kept record.
@@ -66,11 +62,10 @@ pub(crate) fn close<R: Copy>(entry: Entry<R>, kept: R, clock: u16) -> Entry<R>
     requires { counts_may_rise (Some entry) ≡ true }
     ensures { result ≡ close kept clock entry }
 {
-    Entry {
-        value: kept,
-        end: Some(clock),
-        ..count_two(entry)
-    }
+    let mut entry = count_two(entry);
+    entry.value = kept;
+    entry.end = Some(clock);
+    entry
 }
 
 // The entries that are opened, of those that there are.

@@ -1,8 +1,7 @@
-use Rattle.std.proofs.Common.{◌≡◌, false, length, ltb}
-use Rattle.std.specs.Range.{range_inclusive_start, range_inclusive_exhausted}
+use Rattle.std.proofs.Common.{◌≡◌, ltb}
 use Rattle.stations.specs.Members.{member}
 use Rattle.network.proofs.lives.first_stations.Given as goal
 
--- so far those below the number of the stations taken, which is the next one
+-- so far those below p
 abbrev pub invariant-loop-p : goal.invariant-loop-p
-invariant-loop-p l = (member l.all ≡ (λ q. ltb q (length l.yielded))) × (range_inclusive_exhausted l.p-iterator.iter ≡ false → range_inclusive_start l.p-iterator.iter ≡ length l.yielded)
+invariant-loop-p l = member l.all ≡ (λ q. ltb q l.p)
