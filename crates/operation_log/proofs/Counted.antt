@@ -58,20 +58,20 @@ module _ {R : Type 0} (l : OperationLog R) where
             ∙ ap with_entries (take-set-lt l.len lent place y (opened.0) ∙ ap (set (take l.len lent) place) changed ∙ sym (changed_some f _ _ e (sym some)))
             ∙ sym (cond-true _ _ _ (sym (low ∙ ap counts_may_rise some)))
 
+  -- where there is room, the next entry is one of the lent
+  pub next_lent : true ≡ can_open (places l) (log_of l) → l.len < length lent
+  next_lent has_room = grind (arith, common_steps, nat_tests)
+
   -- the log n with one entry more, of p
   module _ (p : ℕ) (e y : Entry R) (made : y ≡ e) (has_room : true ≡ can_open (places l) (log_of l)) (stations : p < length l.latest) (n : OperationLog R)
       (written : n.entries.now ≡ set lent l.len y) (len : n.len ≡ l.len + 1) (latest : n.latest ≡ set l.latest p l.len) where
-    -- the next entry is one of the lent
-    next_lent : l.len < length lent
-    next_lent = grind (arith, common_steps, nat_tests)
-
     number : l.len ≡ length (take l.len lent)
-    number = simp length-take (omega (arith, next_lent))
+    number = simp length-take (omega (arith, next_lent has_room))
 
     pub open_after : log_of n ≡ cond (can_open (places l) (log_of l)) (record { entries = take l.len lent ++ (e ∷ []); latest = put (latest_of l.latest) p (length (take l.len lent)) }) (log_of l)
     open_after =
         ap (λ (k : ℕ). view k n.entries.now n.latest) len ∙ ap (λ es. view (l.len + 1) es n.latest) (written ∙ ap (set lent l.len) made)
         ∙ ap (view (l.len + 1) (set lent l.len e)) latest
-        ∙ ap (λ es. record { entries = es; latest = latest_of (set l.latest p l.len) }) (take_more_set lent l.len e next_lent)
+        ∙ ap (λ es. record { entries = es; latest = latest_of (set l.latest p l.len) }) (take_more_set lent l.len e (next_lent has_room))
         ∙ ap (λ (w : ℕ → ℕ). record { entries = take l.len lent ++ (e ∷ []); latest = w }) (put_latest l.latest p l.len stations ∙ ap (put (latest_of l.latest) p) number)
         ∙ sym (cond-true _ _ _ (sym has_room))

@@ -10,6 +10,12 @@ use Rattle.rack.proofs.Order.{rising_parts, rising_bound, held_other}
 use Rattle.rack.proofs.Changes.{steady_parts}
 use Rattle.rack.proofs.Keys.{waiting_at}
 
+pub earlier_assoc : (a b c : Option ℕ) → earlier (earlier a b) c ≡ earlier a (earlier b c)
+earlier_assoc None b c = refl
+earlier_assoc (Some a) None c = refl
+earlier_assoc (Some a) (Some b) None = refl
+earlier_assoc (Some a) (Some b) (Some c) = ap Some (omega arith)
+
 above_earlier : (t : ℕ) (a b : Option ℕ) → Above t a → Above t b → Above t (earlier a b)
 above_earlier t None b x y = y
 above_earlier t (Some a) None x y = x
@@ -36,10 +42,7 @@ pick s (Some u) t e =
 -- the least of some ticks, taken one by one
 reduced : (a : ℕ) (xs : List ℕ) → Some (fold min a xs) ≡ earlier (Some a) (reduce min xs)
 reduced a [] = refl
-reduced a (b ∷ xs) = reduced (min a b) xs ∙ earlier_assoc a b (reduce min xs) ∙ ap (earlier (Some a)) (sym (reduced b xs)) where
-  earlier_assoc : (a b : ℕ) (o : Option ℕ) → earlier (Some (min a b)) o ≡ earlier (Some a) (earlier (Some b) o)
-  earlier_assoc a b None = refl
-  earlier_assoc a b (Some c) = ap Some (omega arith)
+reduced a (b ∷ xs) = reduced (min a b) xs ∙ earlier_assoc (Some a) (Some b) (reduce min xs) ∙ ap (earlier (Some a)) (sym (reduced b xs))
 
 module _ {X : Type 0} where
   pub soonest_reduced : (es : List (Entry X)) → soonest es ≡ reduce min (map (λ e. e.held.sent) (filter live es))

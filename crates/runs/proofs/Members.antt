@@ -48,6 +48,9 @@ module _ {R : Type 0} (z : Run R) where
         member = λ h. g.joined (k.member (heard_under_way z.setup.choice q c.content (station z i q) h));
       })
 
+  pub knows_itself_entered : (i q : ℕ) → is_used (station z i q).life ≡ true → (station z i q).known.entered q ≡ true
+  knows_itself_entered i q = (self_aware i q).entered
+
   pub joined_used : (i q : ℕ) → (station z i q).joined ≡ true → is_used (station z i q).life ≡ true
   joined_used i q = (self_aware i q).used
 

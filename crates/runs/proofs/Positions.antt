@@ -1,6 +1,6 @@
 -- One run under one name, seen by positions: the state before each step, which steps were accepted, and induction along it.
 -- Position i is the place before step i; past the last step nothing happens. Rests on the definitions of runs alone.
-use Rattle.std.proofs.Common.{◌≡◌, ℕ, zero, suc, ◌<◌, ◌≤◌, Bool, true, false, List, [], ◌∷◌, length, take, Some, None, Option, refl, ap, ◌∙◌, inl, inr, arith, slice_get}
+use Rattle.std.proofs.Common.{◌≡◌, ℕ, zero, suc, ◌<◌, ◌≤◌, Bool, true, false, List, [], ◌∷◌, length, take, Some, None, Option, refl, ap, ◌∙◌, inl, inr, le_trans, le_refl, arith, slice_get}
 use Rattle.std.proofs.lemmas.Bool.{both_ways, cases_Bool, cases_lt}
 use Rattle.std.proofs.lemmas.Option.{slice_get_past}
 use Rattle.network.specs.declared.fault.StepFault.{StepFault}
@@ -119,6 +119,14 @@ module _ {R : Type 0} (z : Run R) where
       by : (i : ℕ) → OutcomeOf i → P (state i) → P (state (suc i))
       by i (goes x t) h = rw (after_step i x t) (keep i x t h)
       by i (stays e) h = rw e h
+
+  -- what holds at a new run, and is kept by each accepted step, always holds
+  pub always : (P : State R → Type 0) → P (new_run z.setup z.founders) → ((i : ℕ) (x : Step R) → Accepted i x → P (state i) → P (next z.setup x (state i))) → (i : ℕ) → P (state i)
+  always P start keep i = along P keep 0 i (omega arith) (rw state_start start)
+
+  -- what never falls at an accepted step never falls
+  pub never_falls : (f : State R → ℕ) → ((i : ℕ) (x : Step R) → Accepted i x → f (state i) ≤ f (next z.setup x (state i))) → (i j : ℕ) → i ≤ j → f (state i) ≤ f (state j)
+  never_falls f rise i j l = along (λ s. f (state i) ≤ f s) (λ k x t h. le_trans h (rise k x t)) i j l (le_refl _)
 
 -- a test that fails at i and holds at j begins to hold at some step between
 pub turns : (f : ℕ → Bool) (i j : ℕ) → i ≤ j → f i ≡ false → f j ≡ true → (k : ℕ) × (i ≤ k) × (k < j) × (f k ≡ false) × (f (suc k) ≡ true)

@@ -68,6 +68,10 @@ module _ {R : Type 0} (z : Run R) where
           }
       by (inr p) earlier = record { place = i; before = omega arith; posted = p; since = at_last }
 
+  -- where a delivered copy came from
+  pub heard_from : (i n q : ℕ) (a : Accepted z i (step.Deliver n q)) → Origin i n q (hears z i n q a).copy
+  heard_from i n q a = let h = hears z i n q a in origin i n q h.copy h.waits
+
   -- a number is given at one step
   pub one_origin : (n q r i j : ℕ) (c d : Copy R) → Posted z i n q c → waiting z (suc i) n q ≡ Some c → Posted z j n r d → waiting z (suc j) n r ≡ Some d → i ≡ j
   one_origin n q r i j c d a x b y =

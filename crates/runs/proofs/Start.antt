@@ -22,6 +22,9 @@ module _ {R : Type 0} (z : Run R) where
   pub table_high : z.setup.table ≤ 256
   table_high = (start_facts z.setup.choice z.setup.table z.founders z.admitted.start).0
 
+  pub some_founder : 1 ≤ z.founders
+  some_founder = (start_facts z.setup.choice z.setup.table z.founders z.admitted.start).1
+
   pub founders_fit : z.founders ≤ z.setup.table
   founders_fit = (start_facts z.setup.choice z.setup.table z.founders z.admitted.start).2
 
